@@ -1,0 +1,3 @@
+pub mod Computing
+pub mod SmallFacts
+pub mod FullRun
