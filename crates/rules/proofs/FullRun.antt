@@ -5,11 +5,15 @@ use Prim.Native.Nat.{ℕ, suc}
 use mathlib.Core.Bool.{Bool, true}
 use mathlib.Core.List.{List, [], _∷_, _++_, map}
 use lib.ListN.{length, replicate, take, drop}
-use Rattle.rules.specs.State.{State, start}
-use Rattle.rules.specs.Run.{Step, steps}
+use Rattle.rules.specs.Limits.{recordCount, endCount}
+use Rattle.rules.specs.State.{State, free-record, free-end, start}
+use Rattle.rules.specs.Refusal.{done}
+use Rattle.rules.specs.Run.{Step, steps, finished}
 use Rattle.rules.specs.SoundTest.{soundTest, all}
 use Rattle.rules.specs.Image.{imageOf}
 use Rattle.rules.specs.Text.{text}
+use Rattle.rules.specs.Layout.{stateSize, layout}
+use Rattle.rules.specs.Calls.{load, soundBytes, callRun}
 use Rattle.rules.specs.Printed.{traceText, traceBudget}
 use Rattle.rules.proofs.Computing.{computing}
 
@@ -37,3 +41,27 @@ reachedIn s = s .reached
 pub sound-throughout : all soundTest (start code ∷ map reachedIn (steps traceBudget (start code) 0)) ≡ true
 unfolding computing
 sound-throughout = refl
+
+-- ---- the same on bytes
+
+-- a lent memory of the fixed length, whatever it holds
+abbrev pub lent : List ℕ
+lent = replicate stateSize 7
+
+-- loading fills it with the start state and the code; the memory is right
+pub loaded : load lent (imageOf code) ≡ record { number = 0; memory = layout (start code) }
+unfolding computing
+loaded = refl
+
+pub loaded-sound : soundBytes (layout (start code)) ≡ true
+unfolding computing
+loaded-sound = refl
+
+-- the state at the end: the code, every record and every end free
+abbrev pub ended : State
+ended = record { code = code; records = replicate recordCount free-record; ends = replicate endCount free-end }
+
+pub ran : callRun (layout (start code)) traceBudget 0
+    ≡ record { answer = done (record { reached = ended; made = 9; next = 33; verdict = finished }); memory = layout ended }
+unfolding computing
+ran = refl

@@ -1,3 +1,6 @@
 pub mod Computing
 pub mod SmallFacts
 pub mod FullRun
+pub mod CountLaws
+pub mod TestLaws
+pub mod SoundLaws
