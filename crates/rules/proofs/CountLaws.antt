@@ -46,6 +46,13 @@ pub δ-eq : (i j : ℕ) → 0 < δ i j → i ≡ j
     go (yes e) = e
     go (no n) = absurd (let z : δ i j ≡ 0 = δ-ne i j n in omega arith)
 
+pub δ-sym : (i j : ℕ) → δ i j ≡ δ j i
+δ-sym i j = go (ℕ-discrete i j)
+  where
+    go : Dec (i ≡ j) → δ i j ≡ δ j i
+    go (yes e) = rw e refl
+    go (no n) = δ-ne i j n ∙ sym (δ-ne j i (λ (p : j ≡ i). n (sym p)))
+
 -- a number is one of two different numbers at most
 pub δ-apart : (i j k : ℕ) → i ≢ j → δ i k * δ j k ≡ 0
 δ-apart i j k h = go (ℕ-discrete i k)

@@ -87,6 +87,13 @@ pub record History : Type 0 where
 abbrev pub newHistory : History
 newHistory = record { put-so-far = []; taken-so-far = [] }
 
+-- one datum more put; one datum more taken
+abbrev pub morePut : History → Datum → History
+morePut h d = record { put-so-far = h .put-so-far ++ d ∷ []; taken-so-far = h .taken-so-far }
+
+abbrev pub moreTaken : History → Datum → History
+moreTaken h d = record { put-so-far = h .put-so-far; taken-so-far = h .taken-so-far ++ d ∷ [] }
+
 abbrev pub pickHistory : Bool → History → History → History
 pickHistory true h k = h
 pickHistory false h k = k
@@ -94,10 +101,8 @@ pickHistory false h k = k
 -- the history of end e with one more event
 abbrev pub noted : (e : ℕ) → History → Event → History
 noted e h (created f) = pickHistory (eqb f e) newHistory h
-noted e h (put-on f d) =
-    pickHistory (eqb f e) (record { put-so-far = h .put-so-far ++ d ∷ []; taken-so-far = h .taken-so-far }) h
-noted e h (taken-from f d) =
-    pickHistory (eqb f e) (record { put-so-far = h .put-so-far; taken-so-far = h .taken-so-far ++ d ∷ [] }) h
+noted e h (put-on f d) = pickHistory (eqb f e) (morePut h d) h
+noted e h (taken-from f d) = pickHistory (eqb f e) (moreTaken h d) h
 
 -- the history of end e with more events, in order
 unfoldable pub history : (e : ℕ) → History → List Event → History

@@ -1,0 +1,10 @@
+pub mod Patch
+pub mod Pairs
+pub mod Change
+pub mod Move
+pub mod SlotLaws
+pub mod FreeLaws
+pub mod DecodeLaws
+pub mod Running
+pub mod ValueLaws
+pub mod Steps
