@@ -35,15 +35,15 @@ pub record Change (st : State) (es : EndPatch) (rs : RecordPatch) : Type 0 where
   -- no new end is its own partner, and who is whose partner stays mutual
   pub apart-ok : AllNew (λ e x. mates e x ≡ 0) es
   pub mutual-ok : (k f : ℕ)
-    → news (λ e x. δ e k * mates f x) es + olds (λ e x. δ e f * mates k x) es
-    ≡ news (λ e x. δ e f * mates k x) es + olds (λ e x. δ e k * mates f x) es
+      → news (λ e x. δ e k * mates f x) es + olds (λ e x. δ e f * mates k x) es
+      ≡ news (λ e x. δ e f * mates k x) es + olds (λ e x. δ e k * mates f x) es
   -- what is gained in places is gained in use
   pub places-ok : (k : ℕ)
-    → news (λ r. heldIn k) rs + news (λ e. carriedBy k) es + news (λ e x. δ e k * givenUp x) es + olds (λ e x. δ e k * inUse x) es
-    ≡ olds (λ r. heldIn k) rs + olds (λ e. carriedBy k) es + olds (λ e x. δ e k * givenUp x) es + news (λ e x. δ e k * inUse x) es
+      → news (λ r. heldIn k) rs + news (λ e. carriedBy k) es + news (λ e x. δ e k * givenUp x) es + olds (λ e x. δ e k * inUse x) es
+      ≡ olds (λ r. heldIn k) rs + olds (λ e. carriedBy k) es + olds (λ e x. δ e k * givenUp x) es + news (λ e x. δ e k * inUse x) es
   -- what is gained in waits is gained in waiting
   pub waits-ok : (k : ℕ)
-    → news (λ e. namedBy k) es + olds (λ r x. δ r k * isWaiting x) rs ≡ olds (λ e. namedBy k) es + news (λ r x. δ r k * isWaiting x) rs
+      → news (λ e. namedBy k) es + olds (λ r x. δ r k * isWaiting x) rs ≡ olds (λ e. namedBy k) es + news (λ r x. δ r k * isWaiting x) rs
   -- every wait for a record put anew stood on an end put anew
   pub waits-were : AllOld (λ r x. isWaiting x ≡ olds (λ e. namedBy r) es) rs
   -- each new end with a wait names a record that stands there
@@ -62,7 +62,7 @@ module _ (st : State) (es : EndPatch) (rs : RecordPatch) (s : Sound st) (c : Cha
     record-count = length-patched (st .records) rs ∙ s .S1 .record-count;
     end-count = length-patched (st .ends) es ∙ s .S1 .end-count;
     records-within = patched-all (λ r x. RecordWithin x) free-record (st .records) rs (c .records-were) (c .records-ok) (λ r o. s .S1 .records-within r);
-    ends-within = patched-all (λ e x. EndWithin x) free-end (st .ends) es (c .ends-were) (c .ends-ok) (λ e o. s .S1 .ends-within e)
+    ends-within = patched-all (λ e x. EndWithin x) free-end (st .ends) es (c .ends-were) (c .ends-ok) (λ e o. s .S1 .ends-within e);
   }
 
   mated-after : Mated (patchedState st es rs)
@@ -76,7 +76,7 @@ module _ (st : State) (es : EndPatch) (rs : RecordPatch) (s : Sound st) (c : Cha
           at-patch (mates e) free-end (st .ends) es f (c .ends-were),
           c .mutual-ok e f,
           m .mutually e f,
-        )
+        );
       }
 
   places-after : (e : ℕ) → placesOf (patchedState st es rs) e ≡ inUse (endAt (patchedState st es rs) e)
@@ -126,6 +126,6 @@ module _ (st : State) (es : EndPatch) (rs : RecordPatch) (s : Sound st) (c : Cha
     S3 = places-after;
     S4 = waits-after;
     S5 = patched-all
-      (λ e x. (r : ℕ) → lastOf x ≡ some (wait-item r) → StandsAt (st .code) e (getD (patched rs (st .records)) r free-record))
-      free-end (st .ends) es (c .ends-were) (c .stands-ok) stands-left
+        (λ e x. (r : ℕ) → lastOf x ≡ some (wait-item r) → StandsAt (st .code) e (getD (patched rs (st .records)) r free-record))
+        free-end (st .ends) es (c .ends-were) (c .stands-ok) stands-left;
   }

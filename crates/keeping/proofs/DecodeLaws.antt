@@ -89,7 +89,7 @@ module _ (code : List ℕ) (bytes : (i : ℕ) → getD code i 0 < 256) where
           let is : record { instruction = instructionAt code place (f .name); next = placeAfter code place f } ≡ d = cc in
           subst DecodedWithin is (record {
             operands = operands-within place (f .name);
-            next-in-code = ltb-false (length code) (placeAfter code place f) (no-cause-read (misfits code place f) q .1 .1 .1 .0)
+            next-in-code = ltb-false (length code) (placeAfter code place f) (no-cause-read (misfits code place f) q .1 .1 .1 .0);
           })
       found f false q h = absurd (let z : _≡_ {A = ℕ} 0 1 = cc in omega arith)
 

@@ -112,7 +112,7 @@ four-free st h = go (freeEnds st) (passing isFreeEnd free-end 0 (st .ends)) (ris
     go (p ∷ q ∷ s ∷ t ∷ l) f a n = record {
       first-two = record { p-free = free-end-at st p (f .0); q-free = free-end-at st q (f .1 .0); p-below-q = a .1 .0 };
       last-two = record { p-free = free-end-at st s (f .1 .1 .0); q-free = free-end-at st t (f .1 .1 .1 .0); p-below-q = a .1 .1 .1 .0 };
-      q-below-s = a .1 .1 .0
+      q-below-s = a .1 .1 .0;
     }
 
 pub record-free : (st : State) → noFreeRecord st ≡ false → FreeRecord st (getD (freeRecords st) 0 recordCount)

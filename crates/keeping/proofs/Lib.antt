@@ -8,3 +8,5 @@ pub mod DecodeLaws
 pub mod Running
 pub mod ValueLaws
 pub mod Steps
+pub mod Creating
+pub mod Joining

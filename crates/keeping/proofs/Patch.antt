@@ -73,7 +73,7 @@ module _ {A : Type 0} where
       omega (arith, total-patch f d (set l (p .0) (p .2)) ps (valid-set d l (p .0) (p .2) ps (h .2) (h .3)), total-put f l (p .0) (p .2) d (h .0) (h .1))
 
   pub at-patch : (f : A → ℕ) (d : A) (l : List A) (ps : List (Put A)) (k : ℕ) → Valid d l ps
-    → f (getD (patched ps l) k d) + olds (λ i u. δ i k * f u) ps ≡ f (getD l k d) + news (λ i v. δ i k * f v) ps
+      → f (getD (patched ps l) k d) + olds (λ i u. δ i k * f u) ps ≡ f (getD l k d) + news (λ i v. δ i k * f v) ps
   at-patch f d l [] k h = refl
   at-patch f d l (p ∷ ps) k h =
       omega (arith, at-patch f d (set l (p .0) (p .2)) ps k (valid-set d l (p .0) (p .2) ps (h .2) (h .3)), at-put f l (p .0) k (p .2) d (h .0) (h .1))

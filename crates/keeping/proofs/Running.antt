@@ -113,10 +113,10 @@ module _ (st : State) (s : Sound st) (r : ℕ) (g : Registers) (is : recordAt st
       places-ok = λ k. omega (arith, q k);
       waits-ok = λ k. refl;
       waits-were = (refl, tt);
-      stands-ok = tt
+      stands-ok = tt;
     };
     queues = tt;
-    others = λ e o. refl
+    others = λ e o. refl;
   }
 
   -- ---- an item appended to the queue of a slot's end
@@ -146,10 +146,10 @@ module _ (st : State) (s : Sound st) (r : ℕ) (g : Registers) (is : recordAt st
         places-ok = λ k. omega (arith, q k);
         waits-ok = λ k. refl;
         waits-were = (refl, tt);
-        stands-ok = ((λ r′ z. absurd (let n : _≡_ {A = ℕ} 0 1 = cc in omega arith)), tt)
+        stands-ok = ((λ r′ z. absurd (let n : _≡_ {A = ℕ} 0 1 = cc in omega arith)), tt);
       };
       queues = (rw (eq-eqb e e refl) (refl, refl, refl), tt);
-      others = λ k o. rw (ne-eqb e k (λ (z : e ≡ k). o .0 (sym z)))
+      others = λ k o. rw (ne-eqb e k (λ (z : e ≡ k). o .0 (sym z)));
     }
 
     -- a last item; the record becomes y
@@ -173,8 +173,8 @@ module _ (st : State) (s : Sound st) (r : ℕ) (g : Registers) (is : recordAt st
         places-ok = λ k. omega (arith, places k);
         waits-ok = λ k. omega (arith, waits k);
         waits-were = (refl, tt);
-        stands-ok = (stands, tt)
+        stands-ok = (stands, tt);
       };
       queues = ((refl, λ z. used-not-free z), tt);
-      others = λ k o. refl
+      others = λ k o. refl;
     }

@@ -70,9 +70,9 @@ module _ (weight : Option ℕ → ℕ) (light : weight none ≡ 0) where
   kept-total m m′ [] h k = refl
   kept-total m m′ (x ∷ xs) h k =
       let here = kept-bits (lowBit m) (lowBit m′) x (or-left (lowBit m && lowBit m′) (overlap (m / 2) (m′ / 2) xs) h)
-            (or-left (xor (lowBit m || lowBit m′) (isHeld x)) (notTogether (m / 2) (m′ / 2) xs) k) in
+      (or-left (xor (lowBit m || lowBit m′) (isHeld x)) (notTogether (m / 2) (m′ / 2) xs) k) in
       let rest = kept-total (m / 2) (m′ / 2) xs (or-right (lowBit m && lowBit m′) (overlap (m / 2) (m′ / 2) xs) h)
-            (or-right (xor (lowBit m || lowBit m′) (isHeld x)) (notTogether (m / 2) (m′ / 2) xs) k) in
+      (or-right (xor (lowBit m || lowBit m′) (isHeld x)) (notTogether (m / 2) (m′ / 2) xs) k) in
       omega (arith, here, rest)
 
 pub length-kept : (m : ℕ) (l : Slots) → length (keptBy m l) ≡ length l

@@ -9,25 +9,29 @@ use Prim.Native.Nat.{ℕ, zero, suc, _+_, _*_, _≤_, _<_}
 use native.Mathlib.Nat.{min-le-right}
 use native.Mathlib.Omega.{arith}
 use lib.ListN.{length, getD, set, take, drop, length-set, length-drop, length-take, length-reverse}
-use lib.Seq.{getD-set-same}
+use lib.Seq.{getD-set-same, getD-set-other}
 use lib.IntN.{pos, _+ℤ_, _*ℤ_}
 use lib.Signed.{mag, leZ}
-use lib.Dec.{leb}
-use borrow.Author.Tests.{leb-false, ltb-false}
+use lib.Dec.{leb, ltb, eqb}
+use borrow.Author.Tests.{leb-false, ltb-false, eqb-false}
 use Rattle.rules.specs.Limits.{endCount, queueDepth, slotCount, stackDepth, environmentDepth, placeCount, valueBound}
-use Rattle.rules.specs.State.{State, Value, Datum, value, handle, Last, split-item, close-item, wait-item, EndState, used, Registers, registers, RecordState, free-record, running, waiting, recordAt, endAt, setRecord, setEnd, slotAt, endIn, endOr, queueLength, appended, Item, datum, last}
+use Rattle.rules.specs.State.{State, Value, Datum, value, handle, Last, split-item, close-item, wait-item, EndState, used, Registers, registers, RecordState, free-record, running, waiting, recordAt, endAt, setRecord, setEnd, slotAt, endIn, endOr, partnerOf, queueLength, appended, Item, datum, last}
 use Rattle.rules.specs.Refusal.{NoCause}
 use Rattle.rules.specs.Instruction.{Instruction, cst, access, store, add, mul, leq, put, get, split, fork, plug, close, halt, same, hput, hcase, run, Decoded, decode}
-use Rattle.rules.specs.Causes.{top, below, fewer, empty, queueFull, ownCauses, sharedCauses}
+use Rattle.rules.specs.Causes.{top, below, fewer, empty, names, partners, queueFull, queueNotEmpty, othersThanBothHeld, ownCauses, sharedCauses}
 use Rattle.rules.specs.RecordStep.{Fresh, yesOrNo, waits, after}
-use Rattle.rules.specs.EndStep.{waitOf, Wait}
+use Rattle.rules.specs.EndStep.{Wanted, a-value, a-handle, a-split, Wait, waitOf}
 use Rattle.rules.specs.Slots.{over, emptied, calleeSlots}
 use Rattle.rules.specs.Count.{δ, total}
-use Rattle.rules.specs.Sound.{ValueWithin, RegistersWithin, inSlot, StandsAt, Sound}
+use Rattle.rules.specs.Sound.{ValueWithin, RegistersWithin, EndWithin, inSlot, heldIn, inUse, placesOf, StandsAt, Sound}
 use Rattle.rules.specs.Events.{Event, instructionEvents}
-use Rattle.rules.proofs.CountLaws.{δ-sym}
+use Rattle.rules.proofs.CountLaws.{δ-same, δ-sym, total-one}
+use Rattle.keeping.proofs.Pairs.{mates, mated-of-paired}
 use Rattle.keeping.proofs.Move.{Move}
-use Rattle.keeping.proofs.SlotLaws.{held-slot, emptied-total, none-held, callee-total, length-callee}
+use Rattle.keeping.proofs.FreeLaws.{TwoFree, FourFree, FreeRecord}
+use Rattle.keeping.proofs.Creating.{splitSlots, length-split, split-total, split-move, plug-move, branch-within, branch-total}
+use Rattle.keeping.proofs.Joining.{partner-of, same-move}
+use Rattle.keeping.proofs.SlotLaws.{held-slot, emptied-total, none-held, kept-total, callee-total, length-callee}
 use Rattle.keeping.proofs.DecodeLaws.{OperandsWithin, DecodedWithin, decoded-within}
 use Rattle.keeping.proofs.ValueLaws.{all-cons, all-drop, all-take, all-reverse}
 use Rattle.keeping.proofs.Running.{running-in-list, registers-within, OwnEnd, own-end, quiet-move, datum-move, last-move}
@@ -54,7 +58,7 @@ module _ (st : State) (s : Sound st) (r : ℕ) (g : Registers) (is : recordAt st
     environment-within = w .environment-within;
     stack-values = v;
     environment-values = w .environment-values;
-    slots-within = w .slots-within
+    slots-within = w .slots-within;
   }
 
   -- one value pushed, after n were popped
@@ -103,7 +107,7 @@ module _ (st : State) (s : Sound st) (r : ℕ) (g : Registers) (is : recordAt st
         environment-within = leb-false environmentDepth (length (g .environment)) (own .1 .0);
         stack-values = all-drop ValueWithin (pos 0) 1 (g .stack) (w .stack-values);
         environment-values = all-cons ValueWithin (pos 0) (top g) (g .environment) (w .stack-values 0) (w .environment-values);
-        slots-within = w .slots-within
+        slots-within = w .slots-within;
       })
       (λ k. refl)
 
@@ -118,8 +122,8 @@ module _ (st : State) (s : Sound st) (r : ℕ) (g : Registers) (is : recordAt st
         environment-within = omega (arith, length-reverse (take n (g .stack)), length-take n (g .stack), min-le-right n (length (g .stack)), w .stack-within);
         stack-values = all-drop ValueWithin (pos 0) n (g .stack) (w .stack-values);
         environment-values =
-          all-reverse ValueWithin (pos 0) (take n (g .stack)) zero-within (all-take ValueWithin (pos 0) n (g .stack) zero-within (w .stack-values));
-        slots-within = length-callee (g .slots) cs
+            all-reverse ValueWithin (pos 0) (take n (g .stack)) zero-within (all-take ValueWithin (pos 0) n (g .stack) zero-within (w .stack-values));
+        slots-within = length-callee (g .slots) cs;
       })
       (λ k. callee-total (inSlot k) refl (g .slots) cs (w .slots-within) (own .1 .0) (own .1 .1 .0) (own .1 .1 .1 .0) (own .1 .1 .1 .1 .0))
 
@@ -139,7 +143,7 @@ module _ (st : State) (s : Sound st) (r : ℕ) (g : Registers) (is : recordAt st
         end = held .0;
         holds = held .1;
         own = own-end st s r g is c (held .0) (held .1);
-        in-list = omega (arith, leb-false slotCount c o, w .slots-within)
+        in-list = omega (arith, leb-false slotCount c o, w .slots-within);
       }
 
   -- its queue has room for one item more
@@ -174,9 +178,8 @@ module _ (st : State) (s : Sound st) (r : ℕ) (g : Registers) (is : recordAt st
   slot-out : (c : ℕ) (n : Named c) (k : ℕ) → total (inSlot k) (emptied (g .slots) c) + δ (n .end) k ≡ total (inSlot k) (g .slots)
   slot-out c n k = omega (arith, emptied-total (inSlot k) refl (g .slots) c (n .in-list), ap (inSlot k) (n .holds), δ-sym k (n .end))
 
-  no-wait-here : (l : Last) → l ≡ close-item → (e r′ : ℕ) (y : RecordState) → some l ≡ some (wait-item r′)
-      → StandsAt (st .code) e (getD (set (st .records) r y) r′ free-record)
-  no-wait-here l q e r′ y z = absurd (let n : _≡_ {A = ℕ} 0 1 = cc in omega arith)
+  no-wait-here : (e r′ : ℕ) (y : RecordState) → some close-item ≡ some (wait-item r′) → StandsAt (st .code) e (getD (set (st .records) r y) r′ free-record)
+  no-wait-here e r′ y z = absurd (let n : _≡_ {A = ℕ} 0 1 = cc in omega arith)
 
   close-step : (c : ℕ) → NoCause (ownCauses g (close c)) → NoCause (sharedCauses st g (close c)) → Move st (after st r (d .next) g new (close c)) []
   unfolding after ownCauses sharedCauses
@@ -191,9 +194,9 @@ module _ (st : State) (s : Sound st) (r : ℕ) (g : Registers) (is : recordAt st
         environment-within = w .environment-within;
         stack-values = w .stack-values;
         environment-values = w .environment-values;
-        slots-within = length-set (g .slots) c none ∙ w .slots-within
+        slots-within = length-set (g .slots) c none ∙ w .slots-within;
       })
-      (λ k. omega (arith, slot-out c n k)) (λ k. omega arith) (λ r′. no-wait-here close-item refl (n .end) r′ (running gone)))
+      (λ k. omega (arith, slot-out c n k)) (λ k. omega arith) (λ r′. no-wait-here (n .end) r′ (running gone)))
 
   halt-step : (c : ℕ) → NoCause (ownCauses g (halt c)) → NoCause (sharedCauses st g (halt c)) → Move st (after st r (d .next) g new (halt c)) []
   unfolding after ownCauses sharedCauses
@@ -202,7 +205,7 @@ module _ (st : State) (s : Sound st) (r : ℕ) (g : Registers) (is : recordAt st
       rw (n .holds, n .own .was)
       (last-move st s r g is (n .end) (n .own .partner) (n .own .queued) (n .own .was) (room c n (shared .0)) close-item free-record tt
       (λ k. omega (arith, slot-out c n k, none-held (inSlot k) refl (emptied (g .slots) c) (own .1 .1 .0))) (λ k. omega arith)
-      (λ r′. no-wait-here close-item refl (n .end) r′ free-record))
+      (λ r′. no-wait-here (n .end) r′ free-record))
 
   -- ---- waiting
 
@@ -228,5 +231,155 @@ module _ (st : State) (s : Sound st) (r : ℕ) (g : Registers) (is : recordAt st
         wait = wt;
         named = named;
         holds = q;
-        no-cause = own
+        no-cause = own;
       }
+
+  -- ---- new channels
+
+  -- the slots with an end more, and one end out
+  slots-for : (l : List (Option ℕ)) → length l ≡ length (g .slots) → RegistersWithin (registers (d .next) (g .stack) (g .environment) l)
+  slots-for l n = record {
+    place-within = next-within;
+    stack-within = w .stack-within;
+    environment-within = w .environment-within;
+    stack-values = w .stack-values;
+    environment-values = w .environment-values;
+    slots-within = n ∙ w .slots-within;
+  }
+
+  in-slots : (c : ℕ) → over c ≡ false → c < length (g .slots)
+  in-slots c o = omega (arith, leb-false slotCount c o, w .slots-within)
+
+  split-step : (c a b : ℕ) → NoCause (ownCauses g (split c a b)) → NoCause (sharedCauses st g (split c a b)) → FourFree st (new .p) (new .q) (new .s) (new .t)
+      → Move st (after st r (d .next) g new (split c a b)) (instructionEvents g new (split c a b))
+  unfolding after ownCauses sharedCauses instructionEvents
+  split-step c a b own shared free =
+      let n = named-slot c (own .0) (own .1 .1 .1 .0) in
+      let e-data = subst EndWithin (n .own .was) (s .S1 .ends-within (n .end)) .1 in
+      let e-apart = subst (λ (x : EndState). mates (n .end) x ≡ 0) (n .own .was) (mated-of-paired st (s .S2) .apart (n .end)) in
+      let slots = splitSlots g c a b (new .p) (new .s) in
+      let total = split-total g c a b (new .p) (new .s) (n .end) (n .holds) (n .in-list) (in-slots a (own .1 .0)) (in-slots b (own .1 .1 .0))
+      (eqb-false a b (own .1 .1 .1 .1 .0)) (own .1 .1 .1 .1 .1 .0) (own .1 .1 .1 .1 .1 .1 .0) in
+      rw (n .holds, n .own .was)
+      (split-move st s r g is (registers (d .next) (g .stack) (g .environment) slots) (n .end) (n .own .partner) (n .own .queued) (n .own .was)
+      (new .p) (new .q) (new .s) (new .t) free (room c n (shared .0), e-data) e-apart (slots-for slots (length-split g c a b (new .p) (new .s))) total)
+
+  plug-step : (a m place m′ place′ : ℕ) → d .instruction ≡ plug a m place m′ place′ → NoCause (ownCauses g (plug a m place m′ place′))
+      → TwoFree st (new .p) (new .q) → FreeRecord st (new .record′)
+      → Move st (after st r (d .next) g new (plug a m place m′ place′)) (instructionEvents g new (plug a m place m′ place′))
+  unfolding after ownCauses instructionEvents
+  plug-step a m place m′ place′ q own free record-free =
+      let operands = subst OperandsWithin q (decoded-within (st .code) (s .S1 .code-bytes) (g .place) d there .operands) in
+      let l = in-slots a (own .0) in
+      plug-move st s r g is a m place m′ place′ (new .p) (new .q) (new .record′) free record-free
+      (branch-within g w a m place (new .p) (operands .0)) (branch-within g w a m′ place′ (new .q) (operands .1))
+      (λ k. omega (
+        arith,
+        branch-total g a m place (new .p) l (own .1 .0) k,
+        branch-total g a m′ place′ (new .q) l (own .1 .1 .0) k,
+        kept-total (inSlot k) refl m m′ (g .slots) (own .1 .1 .1 .0) (own .1 .1 .1 .1 .0),
+      ))
+
+  -- ---- same
+
+  -- an own queue that is empty
+  emptied-end : (c : ℕ) (n : Named c) → queueNotEmpty st c g ≡ false → endAt st (n .end) ≡ used (n .own .partner) [] none
+  emptied-end c n h =
+      n .own .was ∙ ap (λ (ds : List Datum). used (n .own .partner) ds none) (go (n .own .queued) (subst (λ (x : EndState). ltb 0 (queueLength x) ≡ false) (n .own .was)
+      (subst (λ (x : Option ℕ). ltb 0 (queueLength (endAt st (endOr endCount x))) ≡ false) (n .holds) h)))
+    where
+      go : (ds : List Datum) → ltb 0 (length ds) ≡ false → ds ≡ []
+      go [] h = refl
+      go (x ∷ xs) h = absurd (omega (arith, ltb-false 0 (length (x ∷ xs)) h))
+
+  both-out : (c b : ℕ) (x : Named c) (y : Named b) → c ≢ b → othersThanBothHeld c b g ≡ false → (k : ℕ) → total (inSlot k) (g .slots) ≡ δ (x .end) k + δ (y .end) k
+  both-out c b x y differ h k =
+      let b-in : b < length (emptied (g .slots) c) = rw (length-set (g .slots) c none) (y .in-list) in
+      let b-is = getD-set-other (g .slots) c b none none (λ (z : b ≡ c). differ (sym z)) ∙ y .holds in
+      omega (
+        arith,
+        slot-out c x k,
+        emptied-total (inSlot k) refl (emptied (g .slots) c) b b-in,
+        ap (inSlot k) b-is,
+        δ-sym k (y .end),
+        none-held (inSlot k) refl (emptied (emptied (g .slots) c) b) h,
+      )
+
+  same-step : (c b : ℕ) → NoCause (ownCauses g (same c b)) → NoCause (sharedCauses st g (same c b)) → Move st (after st r (d .next) g new (same c b)) []
+  unfolding after ownCauses sharedCauses placesOf
+  same-step c b own shared =
+      let x = named-slot c (own .0) (own .1 .1 .0) in
+      let y = named-slot b (own .1 .0) (own .1 .1 .1 .0) in
+      let out = both-out c b x y (eqb-false c b (shared .0)) (own .1 .1 .1 .1 .0) in
+      let x-was = emptied-end c x (shared .1 .1 .0) in
+      let y-was = emptied-end b y (shared .1 .1 .1 .0) in
+      let differ : x .end ≢ y .end = λ z. absurd (omega (
+        arith,
+        out (x .end),
+        δ-same (x .end),
+        ap (λ (k : ℕ). δ k (x .end)) (sym z),
+        ap (heldIn (x .end)) is,
+        total-one (heldIn (x .end)) (st .records) r free-record refl,
+        s .S3 (x .end),
+        ap inUse x-was,
+      )) in
+      let pm = partner-of st s (x .end) (x .own .partner) [] none x-was in
+      let pn = partner-of st s (y .end) (y .own .partner) [] none y-was in
+      let apart : x .own .partner ≢ y .end = eqb-false (x .own .partner) (y .end) (unmated c b x y x-was (shared .1 .0)) in
+      rw (x .holds, y .holds, x-was, y-was, pm .was, pn .was)
+      (same-move st s r g is (x .end) (y .end) (x .own .partner) (y .own .partner) x-was y-was differ apart pm pn out)
+    where
+      unmated : (c b : ℕ) (x : Named c) (y : Named b) → endAt st (x .end) ≡ used (x .own .partner) [] none → partners st c b g ≡ false → eqb (x .own .partner) (y .end) ≡ false
+      unmated c b x y was h =
+          subst (λ (z : EndState). names (partnerOf z) (y .end) ≡ false) was
+          (subst (λ (z : Option ℕ). names (partnerOf (endAt st (endOr endCount z))) (y .end) ≡ false) (x .holds)
+          (subst (λ (z : Option ℕ). names (partnerOf (endAt st (endIn g c))) (endOr endCount z) ≡ false) (y .holds) h))
+
+  -- ---- every instruction
+
+  -- the fresh names that an instruction needs
+  abbrev pub FreshFor : Instruction → Type 0
+  FreshFor (cst v) = Unit {0}
+  FreshFor (access n) = Unit {0}
+  FreshFor store = Unit {0}
+  FreshFor add = Unit {0}
+  FreshFor mul = Unit {0}
+  FreshFor leq = Unit {0}
+  FreshFor (put c) = Unit {0}
+  FreshFor (get c) = Unit {0}
+  FreshFor (split c a b) = FourFree st (new .p) (new .q) (new .s) (new .t)
+  FreshFor (fork c a m place b m′ place′) = Unit {0}
+  FreshFor (plug a m place m′ place′) = TwoFree st (new .p) (new .q) × FreeRecord st (new .record′)
+  FreshFor (close c) = Unit {0}
+  FreshFor (halt c) = Unit {0}
+  FreshFor (same c b) = Unit {0}
+  FreshFor (hput c n) = Unit {0}
+  FreshFor (hcase c places) = Unit {0}
+  FreshFor (run place n cs) = Unit {0}
+
+  pub instruction-move : (i : Instruction) → d .instruction ≡ i → NoCause (ownCauses g i) → NoCause (sharedCauses st g i) → FreshFor i
+      → Move st (after st r (d .next) g new i) (instructionEvents g new i)
+  unfolding after instructionEvents ownCauses sharedCauses
+  instruction-move (cst v) q own shared free = cst-step v q own
+  instruction-move (access n) q own shared free = access-step n own
+  instruction-move store q own shared free = store-step own
+  instruction-move add q own shared free = add-step own
+  instruction-move mul q own shared free = mul-step own
+  instruction-move leq q own shared free = leq-step own
+  instruction-move (put c) q own shared free = put-step c own shared
+  instruction-move (get c) q own shared free =
+      wait-step (record { slot = c; wanted = a-value (d .next) }) (ap (λ (i : Instruction). waitOf i (d .next)) q) (own .1 .0) (own .1 .1 .0)
+      (subst (λ (i : Instruction). NoCause (ownCauses g i)) (sym q) own) (shared .0)
+  instruction-move (split c a b) q own shared free = split-step c a b own shared free
+  instruction-move (fork c a m place b m′ place′) q own shared free =
+      wait-step (record { slot = c; wanted = a-split a m place b m′ place′ }) (ap (λ (i : Instruction). waitOf i (d .next)) q) (own .0) (own .1 .1 .1 .0)
+      (subst (λ (i : Instruction). NoCause (ownCauses g i)) (sym q) own) (shared .0)
+  instruction-move (plug a m place m′ place′) q own shared free = plug-step a m place m′ place′ q own (free .0) (free .1)
+  instruction-move (close c) q own shared free = close-step c own shared
+  instruction-move (halt c) q own shared free = halt-step c own shared
+  instruction-move (same c b) q own shared free = same-step c b own shared
+  instruction-move (hput c n) q own shared free = hput-step c n q own shared
+  instruction-move (hcase c places) q own shared free =
+      wait-step (record { slot = c; wanted = a-handle places }) (ap (λ (i : Instruction). waitOf i (d .next)) q) (own .0) (own .1 .0)
+      (subst (λ (i : Instruction). NoCause (ownCauses g i)) (sym q) own) (shared .0)
+  instruction-move (run place n cs) q own shared free = run-step place n cs q own
