@@ -8,8 +8,10 @@ use native.Mathlib.Omega.{arith}
 use lib.ListN.{length, getD}
 use borrow.Author.Tests.{ltb-false, eqb-false}
 use Rattle.rules.specs.Limits.{recordCount, endCount}
-use Rattle.rules.specs.State.{State, EndState, free-end, used, RecordState, free-record, running, waiting, isFreeEnd, isFreeRecord, prependIf, placesFrom, freeEnds, freeRecords, endAt, recordAt}
-use Rattle.rules.specs.Causes.{fewFreeEnds, noFreeRecord}
+use Rattle.rules.specs.State.{State, Registers, EndState, free-end, used, RecordState, free-record, running, waiting, isFreeEnd, isFreeRecord, prependIf, placesFrom, freeEnds, freeRecords, endAt, recordAt}
+use Rattle.rules.specs.Causes.{fewFreeEnds, noFreeRecord, sharedCauses}
+use Rattle.rules.specs.Refusal.{NoCause}
+use Rattle.rules.specs.Instruction.{Instruction, cst, access, store, add, mul, leq, put, get, split, fork, plug, close, halt, same, hput, hcase, run}
 use Rattle.rules.specs.RecordStep.{Fresh, lowestFree}
 use Rattle.rules.proofs.TestLaws.{true-is-not-false}
 
@@ -122,3 +124,45 @@ record-free st h = go (freeRecords st) (passing isFreeRecord free-record 0 (st .
     go : (l : List ℕ) → Passing 0 isFreeRecord free-record (st .records) l → (length l ≡ 0 → ⊥) → FreeRecord st (getD l 0 recordCount)
     go [] f n = absurd (n refl)
     go (r ∷ l) f n = free-record-at st r (f .0)
+
+-- ---- the fresh names that an instruction needs
+
+abbrev pub FreshFor : State → Fresh → Instruction → Type 0
+FreshFor st new (cst v) = Unit {0}
+FreshFor st new (access n) = Unit {0}
+FreshFor st new store = Unit {0}
+FreshFor st new add = Unit {0}
+FreshFor st new mul = Unit {0}
+FreshFor st new leq = Unit {0}
+FreshFor st new (put c) = Unit {0}
+FreshFor st new (get c) = Unit {0}
+FreshFor st new (split c a b) = FourFree st (new .p) (new .q) (new .s) (new .t)
+FreshFor st new (fork c a m place b m′ place′) = Unit {0}
+FreshFor st new (plug a m place m′ place′) = TwoFree st (new .p) (new .q) × FreeRecord st (new .record′)
+FreshFor st new (close c) = Unit {0}
+FreshFor st new (halt c) = Unit {0}
+FreshFor st new (same c d) = Unit {0}
+FreshFor st new (hput c n) = Unit {0}
+FreshFor st new (hcase c places) = Unit {0}
+FreshFor st new (run place n cs) = Unit {0}
+
+-- the lowest free ones serve, where 15 does not hold
+pub lowest-serve : (st : State) (g : Registers) (i : Instruction) → NoCause (sharedCauses st g i) → FreshFor st (lowestFree st) i
+unfolding sharedCauses lowestFree
+lowest-serve st g (cst v) h = tt
+lowest-serve st g (access n) h = tt
+lowest-serve st g store h = tt
+lowest-serve st g add h = tt
+lowest-serve st g mul h = tt
+lowest-serve st g leq h = tt
+lowest-serve st g (put c) h = tt
+lowest-serve st g (get c) h = tt
+lowest-serve st g (split c a b) h = four-free st (h .1 .0)
+lowest-serve st g (fork c a m place b m′ place′) h = tt
+lowest-serve st g (plug a m place m′ place′) h = (two-free st (h .0), record-free st (h .1 .0))
+lowest-serve st g (close c) h = tt
+lowest-serve st g (halt c) h = tt
+lowest-serve st g (same c d) h = tt
+lowest-serve st g (hput c n) h = tt
+lowest-serve st g (hcase c places) h = tt
+lowest-serve st g (run place n cs) h = tt

@@ -10,3 +10,5 @@ pub mod ValueLaws
 pub mod Steps
 pub mod Creating
 pub mod Joining
+pub mod Meetings
+pub mod Asks

@@ -28,7 +28,7 @@ use Rattle.rules.specs.Events.{Event, instructionEvents}
 use Rattle.rules.proofs.CountLaws.{δ-same, δ-sym, total-one}
 use Rattle.keeping.proofs.Pairs.{mates, mated-of-paired}
 use Rattle.keeping.proofs.Move.{Move}
-use Rattle.keeping.proofs.FreeLaws.{TwoFree, FourFree, FreeRecord}
+use Rattle.keeping.proofs.FreeLaws.{TwoFree, FourFree, FreeRecord, FreshFor}
 use Rattle.keeping.proofs.Creating.{splitSlots, length-split, split-total, split-move, plug-move, branch-within, branch-total}
 use Rattle.keeping.proofs.Joining.{partner-of, same-move}
 use Rattle.keeping.proofs.SlotLaws.{held-slot, emptied-total, none-held, kept-total, callee-total, length-callee}
@@ -337,27 +337,7 @@ module _ (st : State) (s : Sound st) (r : ℕ) (g : Registers) (is : recordAt st
 
   -- ---- every instruction
 
-  -- the fresh names that an instruction needs
-  abbrev pub FreshFor : Instruction → Type 0
-  FreshFor (cst v) = Unit {0}
-  FreshFor (access n) = Unit {0}
-  FreshFor store = Unit {0}
-  FreshFor add = Unit {0}
-  FreshFor mul = Unit {0}
-  FreshFor leq = Unit {0}
-  FreshFor (put c) = Unit {0}
-  FreshFor (get c) = Unit {0}
-  FreshFor (split c a b) = FourFree st (new .p) (new .q) (new .s) (new .t)
-  FreshFor (fork c a m place b m′ place′) = Unit {0}
-  FreshFor (plug a m place m′ place′) = TwoFree st (new .p) (new .q) × FreeRecord st (new .record′)
-  FreshFor (close c) = Unit {0}
-  FreshFor (halt c) = Unit {0}
-  FreshFor (same c b) = Unit {0}
-  FreshFor (hput c n) = Unit {0}
-  FreshFor (hcase c places) = Unit {0}
-  FreshFor (run place n cs) = Unit {0}
-
-  pub instruction-move : (i : Instruction) → d .instruction ≡ i → NoCause (ownCauses g i) → NoCause (sharedCauses st g i) → FreshFor i
+  pub instruction-move : (i : Instruction) → d .instruction ≡ i → NoCause (ownCauses g i) → NoCause (sharedCauses st g i) → FreshFor st new i
       → Move st (after st r (d .next) g new i) (instructionEvents g new i)
   unfolding after instructionEvents ownCauses sharedCauses
   instruction-move (cst v) q own shared free = cst-step v q own
