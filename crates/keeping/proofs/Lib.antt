@@ -12,3 +12,4 @@ pub mod Creating
 pub mod Joining
 pub mod Meetings
 pub mod Asks
+pub mod RunLaws

@@ -1,1 +1,2 @@
 pub mod Queues
+pub mod Runs
