@@ -13,3 +13,5 @@ pub mod Joining
 pub mod Meetings
 pub mod Asks
 pub mod RunLaws
+pub mod LayoutLaws
+pub mod ViewLaws

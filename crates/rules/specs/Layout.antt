@@ -71,7 +71,7 @@ registersBytes g =
     bytesOf 2 (g .place)
     ++ (length (g .stack)
     ∷ length (g .environment)
-    ∷ (map optional (g .slots)
+    ∷ (map optional (pad slotCount none (g .slots))
     ++ (flat valueBytes (pad stackDepth (pos 0) (g .stack)) ++ flat valueBytes (pad environmentDepth (pos 0) (g .environment)))))
 
 -- all of a free record is zero
