@@ -15,3 +15,7 @@ pub mod Asks
 pub mod RunLaws
 pub mod LayoutLaws
 pub mod ViewLaws
+pub mod Chain
+pub mod Memories
+pub mod Start
+pub mod Demand3

@@ -1,7 +1,7 @@
--- What holds of every element of a list, and of the default past its end, holds after an element in front, a cut and a reversal: the values of
--- a stack and an environment stay within the limits. Assumes nothing.
+-- What holds of every element of a list, and of the default past its end, holds after an element in front, a cut, a reversal and a
+-- joining: values stay within the limits, bytes stay bytes. Assumes nothing.
 use mathlib.Core.Path.{_≡_, refl, sym, subst}
-use mathlib.Core.List.{List, [], _∷_, reverse, reverseAux}
+use mathlib.Core.List.{List, [], _∷_, _++_, reverse, reverseAux}
 use Prim.Native.Nat.{ℕ, zero, suc, _+_}
 use lib.ListN.{getD, take, drop}
 use lib.Seq.{getD-drop}
@@ -29,3 +29,7 @@ module _ {A : Type 0} (P : A → Type 0) (d : A) where
 
   pub all-reverse : (l : List A) → P d → Everywhere l → Everywhere (reverse l)
   all-reverse l p h = all-reverseAux l [] h (λ i. p)
+
+  pub all-append : (l r : List A) → Everywhere l → Everywhere r → Everywhere (l ++ r)
+  all-append [] r h k = k
+  all-append (x ∷ xs) r h k = all-cons x (xs ++ r) (h 0) (all-append xs r (λ j. h (suc j)) k)

@@ -1,19 +1,19 @@
 -- The requests of document 01 on bytes: what each public function answers, document 01's number and values, and every lent byte afterwards.
 -- 24 is checked first, then 1, then the rest upward; a refused call leaves all lent memory as found. The contracts of the code name these
 -- functions, and the theorem of demand 3 is about them. Assumes nothing.
-use Prim.Native.Nat.{ℕ, _+_, _-_}
+use Prim.Native.Nat.{ℕ, _+_}
 use mathlib.Core.Bool.{Bool, true, false, not}
 use mathlib.Core.List.{List, [], _∷_, _++_}
-use lib.ListN.{length, getD}
+use lib.ListN.{length}
 use lib.Dec.{leb, eqb}
-use Rattle.rules.specs.Limits.{recordCount, endCount, positionCount}
+use Rattle.rules.specs.Limits.{recordCount, positionCount}
 use Rattle.rules.specs.State.{State, start, freeEnds, lowestFreeEnd}
 use Rattle.rules.specs.Refusal.{Row, Answer, refused, done, unless, numberOf}
 use Rattle.rules.specs.Ask.{askRecord, askEnd}
-use Rattle.rules.specs.Run.{Ran, Verdict, runFrom, steps}
+use Rattle.rules.specs.Run.{Step, Ran, runFrom, steps}
 use Rattle.rules.specs.SoundTest.{soundTest}
 use Rattle.rules.specs.EndStep.{onlyIf}
-use Rattle.rules.specs.Events.{Event, recordEvents, endEvents, stepsEvents}
+use Rattle.rules.specs.Events.{Event, stepsEvents}
 use Rattle.rules.specs.Image.{readImage, writeCauses, written}
 use Rattle.rules.specs.Layout.{stateSize, layout, view}
 
@@ -131,21 +131,29 @@ memoryAfter m (ask-record r) = callRecord m r .memory
 memoryAfter m (ask-end e) = callEnd m e .memory
 memoryAfter m (run budget p) = callRun m budget p .memory
 
-abbrev pub eventsIf : {A : Type 0} → Answer A → List Event → List Event
-eventsIf (refused n) xs = []
-eventsIf (done a) xs = xs
+-- the step that an ask at position p makes, if it is done
+abbrev pub stepIf : (p : ℕ) → State → Answer State → List Step
+stepIf p st (refused n) = []
+stepIf p st (done st′) = record { position = p; before = st; reached = st′ } ∷ []
 
--- what a call creates, puts and takes; a refused one nothing
-unfoldable pub callEvents : List ℕ → Call → List Event
-callEvents m (ask-record r) = eventsIf (whereSound m (askRecord (view m) r)) (recordEvents (view m) r)
-callEvents m (ask-end e) = eventsIf (whereSound m (askEnd (view m) e)) (endEvents (view m) e)
-callEvents m (run budget p) = eventsIf (runAnswer m budget p) (stepsEvents (steps budget (view m) p))
+abbrev pub stepsIf : Answer Ran → List Step → List Step
+stepsIf (refused n) ss = []
+stepsIf (done ran) ss = ss
 
--- the memory after a list of calls, and their events, in order
+-- the steps that a call makes; a refused one makes none
+unfoldable pub callSteps : List ℕ → Call → List Step
+callSteps m (ask-record r) = stepIf r (view m) (whereSound m (askRecord (view m) r))
+callSteps m (ask-end e) = stepIf (recordCount + e) (view m) (whereSound m (askEnd (view m) e))
+callSteps m (run budget p) = stepsIf (runAnswer m budget p) (steps budget (view m) p)
+
+-- the memory after a list of calls, the steps that they make, in order, and what these create, put and take
 unfoldable pub memoryAfterAll : List ℕ → List Call → List ℕ
 memoryAfterAll m [] = m
 memoryAfterAll m (c ∷ cs) = memoryAfterAll (memoryAfter m c) cs
 
+unfoldable pub allSteps : List ℕ → List Call → List Step
+allSteps m [] = []
+allSteps m (c ∷ cs) = callSteps m c ++ allSteps (memoryAfter m c) cs
+
 unfoldable pub allEvents : List ℕ → List Call → List Event
-allEvents m [] = []
-allEvents m (c ∷ cs) = callEvents m c ++ allEvents (memoryAfter m c) cs
+allEvents m cs = stepsEvents (allSteps m cs)
