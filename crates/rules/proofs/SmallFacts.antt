@@ -16,7 +16,7 @@ use Rattle.rules.proofs.Computing.{computing}
 -- ---- asking and looking
 
 -- the position of end e
-abbrev end : ℕ → ℕ
+abbrev pub end : ℕ → ℕ
 end e = recordCount + e
 
 abbrev stateOr : State → Answer State → State

@@ -19,3 +19,4 @@ pub mod Calls
 pub mod Text
 pub mod Printed
 pub mod Numbers
+pub mod Promise

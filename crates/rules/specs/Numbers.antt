@@ -1,6 +1,6 @@
 -- What the code's numbers and replies stand for: a slot, an end and a record each for its number, a reply for the number returned.
 -- Assumes nothing.
-use Prim.Native.Nat.{ℕ}
+use Prim.Native.Nat.{ℕ, zero, suc}
 use Rattle.rules.specs.declared.Slot.{Slot}
 use Rattle.rules.specs.declared.End.{End}
 use Rattle.rules.specs.declared.Record.{Record}
@@ -23,3 +23,8 @@ recordNumber r = r .0
 abbrev pub replyNumber : Reply → ℕ
 replyNumber Done = 0
 replyNumber (Refused n) = n
+
+-- the reply with a number
+abbrev pub replyOf : ℕ → Reply
+replyOf zero = Done
+replyOf (suc n) = Refused (suc n)
