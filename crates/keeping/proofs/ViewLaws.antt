@@ -198,7 +198,7 @@ free-bit (used m ds l) xs = (rw (none-left (freeWord xs)), omega arith)
     none-left : (n : ℕ) → (2 * n) % 2 ≡ 0
     none-left n = omega arith
 
-free-word-fits : (l : List EndState) → freeWord l < 2 ^ length l
+pub free-word-fits : (l : List EndState) → freeWord l < 2 ^ length l
 unfolding freeWord
 free-word-fits [] = omega arith
 free-word-fits (free-end ∷ l) = omega (arith, free-word-fits l, pow-succ' 2 (length l))
