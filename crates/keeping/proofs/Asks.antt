@@ -69,7 +69,8 @@ pub record-move : (st : State) → Sound st → (r : ℕ) (st′ : State) → as
 unfolding askRecord recordEvents
 record-move st s r st′ h = asked (recordAt st r) refl h
   where
-    decoded : (g : Registers) → recordAt st r ≡ running g → (x : Option Decoded) → decode (st .code) (g .place) ≡ x → askDecoded st r g x ≡ done st′
+    decoded : (g : Registers) → recordAt st r ≡ running g → (x : Option Decoded) → decode (st .code) (g .place) ≡ x → askDecoded st r g x
+        ≡ done st′
         → Move st st′ (decodedEvents g (lowestFree st) x)
     decoded g is none q h = refused-is-not-done h
     decoded g is (some d) q h =
@@ -90,7 +91,8 @@ record-move st s r st′ h = asked (recordAt st r) refl h
 abbrev WantedWithin : Registers → (slot : ℕ) → Wanted → Type 0
 WantedWithin g c (a-value next) = (next < placeCount) × (stackFull g ≡ false)
 WantedWithin g c (a-handle places) = (i : ℕ) → getD places i 0 < placeCount
-WantedWithin g c (a-split a m place b m′ place′) = (place < placeCount) × (place′ < placeCount) × NoCause (ownCauses g (fork c a m place b m′ place′))
+WantedWithin g c (a-split a m place b m′ place′) = (place < placeCount) × (place′ < placeCount) × NoCause
+    (ownCauses g (fork c a m place b m′ place′))
 
 no-such-wait : {A : Type 0} {w : Wait} → none ≡ some w → A
 no-such-wait h = absurd (let z : _≡_ {A = ℕ} 0 1 = cc in omega arith)
@@ -98,7 +100,8 @@ no-such-wait h = absurd (let z : _≡_ {A = ℕ} 0 1 = cc in omega arith)
 wait-is : {v w : Wait} → some v ≡ some w → v ≡ w
 wait-is {v} {w} h = cc
 
-wanted-within : (g : Registers) (i : Instruction) (next : ℕ) → OperandsWithin i → next < placeCount → NoCause (ownCauses g i) → (w : Wait) → waitOf i next ≡ some w
+wanted-within : (g : Registers) (i : Instruction) (next : ℕ) → OperandsWithin i → next < placeCount → NoCause (ownCauses g i) → (w : Wait)
+    → waitOf i next ≡ some w
     → WantedWithin g (w .slot) (w .wanted)
 unfolding ownCauses
 wanted-within g (cst v) next o n own w h = no-such-wait h
@@ -110,7 +113,8 @@ wanted-within g leq next o n own w h = no-such-wait h
 wanted-within g (put c) next o n own w h = no-such-wait h
 wanted-within g (get c) next o n own w h = subst (λ (z : Wait). WantedWithin g (z .slot) (z .wanted)) (wait-is h) (n, own .0)
 wanted-within g (split c a b) next o n own w h = no-such-wait h
-wanted-within g (fork c a m place b m′ place′) next o n own w h = subst (λ (z : Wait). WantedWithin g (z .slot) (z .wanted)) (wait-is h) (o .0, o .1, own)
+wanted-within g (fork c a m place b m′ place′) next o n own w h = subst (λ (z : Wait). WantedWithin g (z .slot) (z .wanted)) (wait-is h)
+    (o .0, o .1, own)
 wanted-within g (plug a m place m′ place′) next o n own w h = no-such-wait h
 wanted-within g (close c) next o n own w h = no-such-wait h
 wanted-within g (halt c) next o n own w h = no-such-wait h
@@ -146,7 +150,8 @@ waits-there st s e r q =
 
 -- what a meeting comes to
 abbrev MeetingMove : State → (e f : ℕ) → Meeting → Type 0
-MeetingMove st e f v = isMismatch v ≡ false → onlyIf (isDivision v) (noFreeRecord st) ≡ false → Move st (afterMeeting st e f (lowestFreeRecord st) v) (meetingEvents v)
+MeetingMove st e f v = isMismatch v ≡ false → onlyIf (isDivision v) (noFreeRecord st) ≡ false
+    → Move st (afterMeeting st e f (lowestFreeRecord st) v) (meetingEvents v)
 
 mismatched : (st : State) (e f : ℕ) → MeetingMove st e f mismatch
 mismatched st e f h k = true-is-not-false refl h
@@ -154,14 +159,16 @@ mismatched st e f h k = true-is-not-false refl h
 -- a datum heads the queue of `from`, a wait for record r is alone on that of `to`
 module _ (st : State) (s : Sound st) (e f from to r : ℕ) (differ : from ≢ to) (ds : List Datum) (l : Option Last)
     (to-was : endAt st to ≡ used from [] (some (wait-item r))) (x : Waits st to r) where
-  meet-datum : (d : Datum) → endAt st from ≡ used to (d ∷ ds) l → DatumWithin d → (wanted : Wanted) → WantedWithin (x .held) (x .wait .slot) wanted
+  meet-datum : (d : Datum) → endAt st from ≡ used to (d ∷ ds) l → DatumWithin d → (wanted : Wanted)
+      → WantedWithin (x .held) (x .wait .slot) wanted
       → MeetingMove st e f (meetDatum from to r d (x .held) wanted)
   unfolding afterMeeting meetingEvents
   meet-datum (value v) from-was dw (a-value next) ok h k =
       let g = x .held in
       let w = x .registers-ok in
       rw (from-was, to-was)
-      (deliver-move st s from to r g to-was (x .is) (value v) ds l (registers next (v ∷ g .stack) (g .environment) (g .slots)) from-was differ
+      (deliver-move st s from to r g to-was (x .is) (value v) ds l (registers next (v ∷ g .stack) (g .environment) (g .slots)) from-was
+      differ
       (record {
         place-within = ok .0;
         stack-within = leb-false stackDepth (length (g .stack)) (ok .1);
@@ -176,7 +183,9 @@ module _ (st : State) (s : Sound st) (e f from to r : ℕ) (differ : from ≢ to
   meet-datum (handle n) from-was dw (a-value next) ok h k = true-is-not-false refl h
   meet-datum (handle n) from-was dw (a-handle places) ok h k = go (ltb n (length places)) h k
     where
-      moved : Move st (afterMeeting st e f (lowestFreeRecord st) (delivers from to r (handle n) (registers (getD places n 0) (x .held .stack) (x .held .environment) (x .held .slots)))) (taken-from from (handle n) ∷ [])
+      moved : Move st (afterMeeting st e f (lowestFreeRecord st)
+          (delivers from to r (handle n) (registers (getD places n 0) (x .held .stack) (x .held .environment) (x .held .slots))))
+          (taken-from from (handle n) ∷ [])
       moved =
           let w = x .registers-ok in
           rw (from-was, to-was)
@@ -192,14 +201,16 @@ module _ (st : State) (s : Sound st) (e f from to r : ℕ) (differ : from ≢ to
           })
           (λ j. refl))
 
-      go : (b : Bool) → MeetingMove st e f (handleChosen b (delivers from to r (handle n) (registers (getD places n 0) (x .held .stack) (x .held .environment) (x .held .slots))))
+      go : (b : Bool) → MeetingMove st e f (handleChosen b
+          (delivers from to r (handle n) (registers (getD places n 0) (x .held .stack) (x .held .environment) (x .held .slots))))
       go true h k = moved
       go false h k = true-is-not-false refl h
   meet-datum (handle n) from-was dw (a-split a m place b m′ place′) ok h k = true-is-not-false refl h
 
 -- a split is alone on the queue of `from`, a wait for record r on that of `to`
 module _ (st : State) (s : Sound st) (from to r p q : ℕ) (differ : from ≢ to)
-    (from-was : endAt st from ≡ used to [] (some (split-item p q))) (to-was : endAt st to ≡ used from [] (some (wait-item r))) (x : Waits st to r) where
+    (from-was : endAt st from ≡ used to [] (some (split-item p q))) (to-was : endAt st to ≡ used from [] (some (wait-item r)))
+    (x : Waits st to r) where
   meet-split : (wanted : Wanted) → WantedWithin (x .held) (x .wait .slot) wanted → MeetingMove st from to (meetSplit p q r (x .held) wanted)
   unfolding afterMeeting meetingEvents ownCauses
   meet-split (a-value next) ok h k = true-is-not-false refl h
@@ -216,7 +227,8 @@ module _ (st : State) (s : Sound st) (from to r p q : ℕ) (differ : from ≢ to
       own : NoCause (ownCauses (x .held) (fork (x .wait .slot) a m place b m′ place′))
       own = ok .2
 
-      shared-out : (k : ℕ) → total (inSlot k) (branch (x .held) a m place p .slots) + total (inSlot k) (branch (x .held) b m′ place′ q .slots) + δ to k
+      shared-out : (k : ℕ) → total (inSlot k) (branch (x .held) a m place p .slots) + total (inSlot k)
+          (branch (x .held) b m′ place′ q .slots) + δ to k
           ≡ total (inSlot k) (x .held .slots) + δ k p + δ k q
       shared-out k =
           let slots = x .held .slots in
@@ -227,14 +239,16 @@ module _ (st : State) (s : Sound st) (from to r p q : ℕ) (differ : from ≢ to
             branch-total (x .held) b m′ place′ q (in-slots b (own .1 .1 .0)) (own .1 .1 .1 .1 .1 .0) k,
             ap (total (inSlot k)) (same .0),
             ap (total (inSlot k)) (same .1),
-            kept-total (inSlot k) refl m m′ (emptied slots (x .wait .slot)) (overlap-emptied m m′ slots (x .wait .slot) ∙ own .1 .1 .1 .1 .1 .1 .0) (own .1 .1 .1 .1 .1 .1 .1 .0),
+            kept-total (inSlot k) refl m m′ (emptied slots (x .wait .slot))
+                (overlap-emptied m m′ slots (x .wait .slot) ∙ own .1 .1 .1 .1 .1 .1 .0) (own .1 .1 .1 .1 .1 .1 .1 .0),
             emptied-total (inSlot k) refl slots (x .wait .slot) (in-slots (x .wait .slot) (own .0)),
             ap (inSlot k) (x .holds),
             δ-sym k to,
           )
 
   -- the same step, asked by the other end
-  split-asked-there : (wanted : Wanted) → WantedWithin (x .held) (x .wait .slot) wanted → MeetingMove st to from (meetSplit p q r (x .held) wanted)
+  split-asked-there : (wanted : Wanted) → WantedWithin (x .held) (x .wait .slot) wanted
+      → MeetingMove st to from (meetSplit p q r (x .held) wanted)
   unfolding afterMeeting
   split-asked-there (a-value next) ok h k = true-is-not-false refl h
   split-asked-there (a-handle places) ok h k = true-is-not-false refl h
@@ -242,7 +256,8 @@ module _ (st : State) (s : Sound st) (from to r p q : ℕ) (differ : from ≢ to
       rw (set-comm (st .ends) to from free-end free-end (λ z. differ (sym z))) (meet-split (a-split a m place b m′ place′) ok h k)
 
 -- the heads of an end and its partner
-meet-heads : (st : State) → Sound st → (e f : ℕ) → e ≢ f → (ds ds′ : List Datum) (l l′ : Option Last) → endAt st e ≡ used f ds l → endAt st f ≡ used e ds′ l′
+meet-heads : (st : State) → Sound st → (e f : ℕ) → e ≢ f → (ds ds′ : List Datum) (l l′ : Option Last) → endAt st e ≡ used f ds l
+    → endAt st f ≡ used e ds′ l′
     → MeetingMove st e f (meetHeads st e f (headOf (used f ds l)) (headOf (used e ds′ l′)))
 unfolding afterMeeting meetingEvents
 meet-heads st s e f n [] ds′ none l′ p q = mismatched st e f
@@ -260,7 +275,8 @@ meet-heads st s e f n [] (d′ ∷ ds′) (some (split-item x y)) l′ p q = mis
 meet-heads st s e f n [] (d′ ∷ ds′) (some (wait-item r)) l′ p q =
     let x = waits-there st s e r (ap lastOf p) in
     subst (λ (z : Option Waiter). MeetingMove st e f (datumAgainst f e r d′ z)) (sym (x .found))
-    (meet-datum st s e f f e r (λ z. n (sym z)) ds′ l′ p x d′ q (subst EndWithin q (s .S1 .ends-within f) .1 0) (x .wait .wanted) (x .wanted-ok))
+    (meet-datum st s e f f e r (λ z. n (sym z)) ds′ l′ p x d′ q (subst EndWithin q (s .S1 .ends-within f) .1 0) (x .wait .wanted)
+    (x .wanted-ok))
 meet-heads st s e f n [] [] (some close-item) (some close-item) p q = λ h k. close-move st s e f p q n
 meet-heads st s e f n [] [] (some close-item) (some (split-item x y)) p q = mismatched st e f
 meet-heads st s e f n [] [] (some close-item) (some (wait-item r)) p q = mismatched st e f
@@ -288,11 +304,13 @@ end-move st s e st′ h = asked (endAt st e) refl
     asked free-end q = true-is-not-false refl (subst (λ (x : EndState). isFreeEnd x ≡ false) q (rows .0 .1 .0))
     asked (used f ds l) q =
         let partner = partner-of st s e f ds l q in
-        let met : meeting st e ≡ meetHeads st e f (headOf (used f ds l)) (headOf (used e (partner .queued) (partner .final))) = rw (q, partner .was) in
+        let met : meeting st e ≡ meetHeads st e f (headOf (used f ds l)) (headOf (used e (partner .queued) (partner .final))) = rw
+        (q, partner .was) in
         let here : partnerIn st e ≡ f = rw q in
         subst (λ (z : State). Move st z (meetingEvents (meeting st e))) (done-is (rows .1))
         (subst (λ (z : ℕ). Move st (afterMeeting st e z (lowestFreeRecord st) (meeting st e)) (meetingEvents (meeting st e))) (sym here)
-        (subst (λ (z : Meeting). MeetingMove st e f z) (sym met) (meet-heads st s e f (λ z. partner .differs (sym z)) ds (partner .queued) l (partner .final) q (partner .was))
+        (subst (λ (z : Meeting). MeetingMove st e f z) (sym met)
+        (meet-heads st s e f (λ z. partner .differs (sym z)) ds (partner .queued) l (partner .final) q (partner .was))
         (rows .0 .1 .1 .1 .1 .0) (rows .0 .1 .1 .1 .1 .1 .0)))
 
 -- ---- a position
@@ -301,6 +319,7 @@ pub ask-move : (st : State) → Sound st → (p : ℕ) (st′ : State) → ask s
 unfolding ask events
 ask-move st s p st′ h = go (ltb p recordCount) h
   where
-    go : (b : Bool) → pickAnswer b (askRecord st p) (askEnd st (p - recordCount)) ≡ done st′ → Move st st′ (pickEvents b (recordEvents st p) (endEvents st (p - recordCount)))
+    go : (b : Bool) → pickAnswer b (askRecord st p) (askEnd st (p - recordCount)) ≡ done st′
+        → Move st st′ (pickEvents b (recordEvents st p) (endEvents st (p - recordCount)))
     go true h = record-move st s p st′ h
     go false h = end-move st s (p - recordCount) st′ h

@@ -20,22 +20,33 @@ use Rattle.keeping.proofs.Asks.{ask-move}
 -- steps that lead from a state to another
 pub data Chain : State → List Step → State → Type 0 where
   here : {st : State} → Chain st [] st
-  then : {st st′ : State} {s : Step} {ss : List Step} → s .before ≡ st → ask (s .before) (s .position) ≡ done (s .reached) → Chain (s .reached) ss st′
+  then : {st st′ : State} {s : Step} {ss : List Step} → s .before ≡ st → ask (s .before) (s .position) ≡ done (s .reached)
+      → Chain (s .reached) ss st′
       → Chain st (s ∷ ss) st′
 
 pub chain-append : {st st′ st″ : State} {ss ts : List Step} → Chain st ss st′ → Chain st′ ts st″ → Chain st (ss ++ ts) st″
 chain-append here d = d
 chain-append (then q a c) d = then q a (chain-append c d)
 
-step-move : (s : Step) → Sound (s .before) → ask (s .before) (s .position) ≡ done (s .reached) → Move (s .before) (s .reached) (events (s .before) (s .position))
+step-move : (s : Step) → Sound (s .before) → ask (s .before) (s .position) ≡ done (s .reached)
+    → Move (s .before) (s .reached) (events (s .before) (s .position))
 step-move s k a = ask-move (s .before) k (s .position) (s .reached) a
 
 pub chain-right : {st st′ : State} {ss : List Step} → Sound st → Chain st ss st′ → EveryStep ss
 chain-right k here = tt
 chain-right k (then {s = s} q a c) =
     let before = subst Sound (sym q) k in
-    let m = step-move s before a in
-    (record { asked = a; before-sound = before; after-sound = move-sound before m; events-are-changes = move-queues m; nothing-lost = nothing-lost m }, chain-right (move-sound before m) c)
+    let m = step-move s before a in (
+      record {
+        asked = a;
+        before-sound = before;
+        after-sound = move-sound before m;
+        events-are-changes = move-queues m;
+        nothing-lost =
+            nothing-lost m;
+      },
+      chain-right (move-sound before m) c,
+    )
 
 pub chain-sound : {st st′ : State} {ss : List Step} → Sound st → Chain st ss st′ → Sound st′
 chain-sound k here = k
@@ -46,13 +57,15 @@ unfolding history
 history-append e h [] ys = refl
 history-append e h (x ∷ xs) ys = history-append e (Rattle.rules.specs.Events.noted e h x) xs ys
 
-pub chain-agrees : {st st′ : State} {ss : List Step} → Sound st → Chain st ss st′ → (h : ℕ → History) → AllAgree st h → AllAgree st′ (λ e. history e (h e) (stepsEvents ss))
+pub chain-agrees : {st st′ : State} {ss : List Step} → Sound st → Chain st ss st′ → (h : ℕ → History) → AllAgree st h
+    → AllAgree st′ (λ e. history e (h e) (stepsEvents ss))
 unfolding history stepsEvents
 chain-agrees k here h a = a
 chain-agrees {st} {st′} k (then {s = s} {ss = ss} q asked c) h a =
     let before = subst Sound (sym q) k in
     let m = step-move s before asked in
-    let rest = chain-agrees (move-sound before m) c (λ e. history e (h e) (events (s .before) (s .position))) (agrees-on m h (subst (λ (z : State). AllAgree z h) (sym q) a)) in
+    let rest = chain-agrees (move-sound before m) c (λ e. history e (h e) (events (s .before) (s .position)))
+    (agrees-on m h (subst (λ (z : State). AllAgree z h) (sym q) a)) in
     λ e. rw (history-append e (h e) (events (s .before) (s .position)) (stepsEvents ss)) (rest e)
 
 -- the steps of a run are such a chain
@@ -60,4 +73,5 @@ pub run-chain : {budget : ℕ} {st : State} {p : ℕ} {ss : List Step} → IsRun
 unfolding reachedBy
 run-chain budget-used = here
 run-chain (nothing-can n) = here
-run-chain (goes-on {s = s} f r) = then (f .before-is) (subst (λ (z : State). ask z (s .position) ≡ done (s .reached)) (sym (f .before-is)) (f .is-step)) (run-chain r)
+run-chain (goes-on {s = s} f r) = then (f .before-is)
+    (subst (λ (z : State). ask z (s .position) ≡ done (s .reached)) (sym (f .before-is)) (f .is-step)) (run-chain r)

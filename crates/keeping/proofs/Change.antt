@@ -47,7 +47,8 @@ pub record Change (st : State) (es : EndPatch) (rs : RecordPatch) : Type 0 where
   -- every wait for a record put anew stood on an end put anew
   pub waits-were : AllOld (λ r x. isWaiting x ≡ olds (λ e. namedBy r) es) rs
   -- each new end with a wait names a record that stands there
-  pub stands-ok : AllNew (λ e x. (r : ℕ) → lastOf x ≡ some (wait-item r) → StandsAt (st .code) e (getD (patched rs (st .records)) r free-record)) es
+  pub stands-ok : AllNew (λ e x. (r : ℕ) → lastOf x ≡ some (wait-item r)
+      → StandsAt (st .code) e (getD (patched rs (st .records)) r free-record)) es
 
 -- ---- the theorem
 
@@ -61,7 +62,8 @@ module _ (st : State) (es : EndPatch) (rs : RecordPatch) (s : Sound st) (c : Cha
     code-bytes = s .S1 .code-bytes;
     record-count = length-patched (st .records) rs ∙ s .S1 .record-count;
     end-count = length-patched (st .ends) es ∙ s .S1 .end-count;
-    records-within = patched-all (λ r x. RecordWithin x) free-record (st .records) rs (c .records-were) (c .records-ok) (λ r o. s .S1 .records-within r);
+    records-within = patched-all (λ r x. RecordWithin x) free-record (st .records) rs (c .records-were) (c .records-ok)
+        (λ r o. s .S1 .records-within r);
     ends-within = patched-all (λ e x. EndWithin x) free-end (st .ends) es (c .ends-were) (c .ends-ok) (λ e o. s .S1 .ends-within e);
   }
 
@@ -108,7 +110,8 @@ module _ (st : State) (es : EndPatch) (rs : RecordPatch) (s : Sound st) (c : Cha
   stands-left e o r q =
       go (outside-or (λ r x. isWaiting x ≡ olds (λ e. namedBy r) es) free-record (st .records) rs (c .records-were) (c .waits-were) r)
     where
-      go : Outside r rs ⊎ (isWaiting (recordAt st r) ≡ olds (λ e. namedBy r) es) → StandsAt (st .code) e (getD (patched rs (st .records)) r free-record)
+      go : Outside r rs ⊎ (isWaiting (recordAt st r) ≡ olds (λ e. namedBy r) es)
+          → StandsAt (st .code) e (getD (patched rs (st .records)) r free-record)
       go (inl p) = rw (patched-out free-record (st .records) rs r p) (s .S5 e r q)
       go (inr p) = absurd (omega (
         arith,

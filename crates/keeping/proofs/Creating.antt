@@ -50,7 +50,8 @@ pub not-free : (st : State) (e p m : ℕ) (ds : List Datum) (l : Option Last) �
 not-free st e p m ds l was f z = used-not-free (sym was ∙ ap (endAt st) z ∙ f .is-free)
 
 running-not-free : (st : State) (r k : ℕ) (g : Registers) → recordAt st r ≡ running g → FreeRecord st k → r ≢ k
-running-not-free st r k g is f z = absurd (let n : running g ≡ free-record = sym is ∙ ap (recordAt st) z ∙ f .is-free in let one : _≡_ {A = ℕ} 0 1 = cc in omega arith)
+running-not-free st r k g is f z = absurd
+    (let n : running g ≡ free-record = sym is ∙ ap (recordAt st) z ∙ f .is-free in let one : _≡_ {A = ℕ} 0 1 = cc in omega arith)
 
 below-differs : {p q : ℕ} → p < q → p ≢ q
 below-differs {p} {q} h z = omega arith
@@ -65,7 +66,8 @@ taken-empty g a c l h = go (ℕ-discrete a c)
 
     go : Dec (a ≡ c) → getD (emptied (g .slots) c) a none ≡ none
     go (yes e) = rw e (getD-set-same (g .slots) c none none l)
-    go (no n) = getD-set-other (g .slots) c a none none n ∙ empty-is (slotAt g a) (subst (λ (b : Bool). unlessSame b (not (empty a g)) ≡ false) (ne-eqb a c n) h)
+    go (no n) = getD-set-other (g .slots) c a none none n
+        ∙ empty-is (slotAt g a) (subst (λ (b : Bool). unlessSame b (not (empty a g)) ≡ false) (ne-eqb a c n) h)
 
 -- ---- branches
 
@@ -96,11 +98,14 @@ pub length-split : (g : Registers) (c a b p u : ℕ) → length (splitSlots g c 
 length-split g c a b p u =
     length-set (holding (emptied (g .slots) c) a p) b (some u) ∙ length-set (emptied (g .slots) c) a (some p) ∙ length-set (g .slots) c none
 
-pub split-total : (g : Registers) (c a b p u e : ℕ) → slotAt g c ≡ some e → c < length (g .slots) → a < length (g .slots) → b < length (g .slots) → a ≢ b
-    → taken a c g ≡ false → taken b c g ≡ false → (k : ℕ) → total (inSlot k) (splitSlots g c a b p u) + δ e k ≡ total (inSlot k) (g .slots) + δ k p + δ k u
+pub split-total : (g : Registers) (c a b p u e : ℕ) → slotAt g c ≡ some e → c < length (g .slots) → a < length (g .slots)
+    → b < length (g .slots) → a ≢ b
+    → taken a c g ≡ false → taken b c g ≡ false → (k : ℕ) → total (inSlot k) (splitSlots g c a b p u) + δ e k
+    ≡ total (inSlot k) (g .slots) + δ k p + δ k u
 split-total g c a b p u e holds lc la lb differ ta tb k =
     let b-empty = getD-set-other (emptied (g .slots) c) a b (some p) none (λ (z : b ≡ a). differ (sym z)) ∙ taken-empty g b c lc tb in
-    let lb′ : b < length (holding (emptied (g .slots) c) a p) = rw (length-set (emptied (g .slots) c) a (some p), length-set (g .slots) c none) lb in
+    let lb′ : b < length (holding (emptied (g .slots) c) a p) = rw
+    (length-set (emptied (g .slots) c) a (some p), length-set (g .slots) c none) lb in
     let la′ : a < length (emptied (g .slots) c) = rw (length-set (g .slots) c none) la in
     omega (
       arith,
@@ -117,7 +122,8 @@ module _ (st : State) (s : Sound st) (r : ℕ) (g : Registers) (is : recordAt st
         → ((k : ℕ) → total (inSlot k) (g′ .slots) + δ e k ≡ total (inSlot k) (g .slots) + δ k p + δ k u)
         → Move st
         (setRecord
-        (setEnd (setEnd (setEnd (setEnd (setEnd st e (used m ds (some (split-item q t)))) p (fresh-end q)) q (fresh-end p)) u (fresh-end t)) t (fresh-end u))
+        (setEnd (setEnd (setEnd (setEnd (setEnd st e (used m ds (some (split-item q t)))) p (fresh-end q)) q (fresh-end p)) u
+        (fresh-end t)) t (fresh-end u))
         r
         (running g′))
         (created p ∷ created q ∷ created u ∷ created t ∷ [])
@@ -155,7 +161,8 @@ module _ (st : State) (s : Sound st) (r : ℕ) (g : Registers) (is : recordAt st
         stands-ok = ((λ k z. no-split z), ((λ k z. no-last z), ((λ k z. no-last z), ((λ k z. no-last z), ((λ k z. no-last z), tt)))));
       };
       queues = (
-        rw (ne-eqb p e (λ z. ep (sym z)), ne-eqb q e (λ z. eq (sym z)), ne-eqb u e (λ z. eu (sym z)), ne-eqb t e (λ z. et (sym z))) (refl, λ z. used-not-free z),
+        rw (ne-eqb p e (λ z. ep (sym z)), ne-eqb q e (λ z. eq (sym z)), ne-eqb u e (λ z. eu (sym z)), ne-eqb t e (λ z. et (sym z)))
+            (refl, λ z. used-not-free z),
         (
           rw (eq-eqb p p refl, ne-eqb q p (λ z. pq (sym z)), ne-eqb u p (λ z. pu (sym z)), ne-eqb t p (λ z. pt (sym z))) (refl, refl, refl),
           (
@@ -221,9 +228,11 @@ module _ (st : State) (s : Sound st) (r : ℕ) (g : Registers) (is : recordAt st
 
   module _ (a m place m′ place′ p q k′ : ℕ) (free : TwoFree st p q) (record-free : FreeRecord st k′) where
     pub plug-move : RegistersWithin (branch g a m place p) → RegistersWithin (branch g a m′ place′ q)
-        → ((k : ℕ) → total (inSlot k) (branch g a m place p .slots) + total (inSlot k) (branch g a m′ place′ q .slots) ≡ total (inSlot k) (g .slots) + δ k p + δ k q)
+        → ((k : ℕ) → total (inSlot k) (branch g a m place p .slots) + total (inSlot k) (branch g a m′ place′ q .slots)
+        ≡ total (inSlot k) (g .slots) + δ k p + δ k q)
         → Move st
-        (setRecord (setRecord (setEnd (setEnd st p (fresh-end q)) q (fresh-end p)) r (running (branch g a m place p))) k′ (running (branch g a m′ place′ q)))
+        (setRecord (setRecord (setEnd (setEnd st p (fresh-end q)) q (fresh-end p)) r (running (branch g a m place p))) k′
+        (running (branch g a m′ place′ q)))
         (created p ∷ created q ∷ [])
     unfolding about
     plug-move w w′ places = record {
@@ -242,7 +251,11 @@ module _ (st : State) (s : Sound st) (r : ℕ) (g : Registers) (is : recordAt st
         waits-were = (refl, (refl, tt));
         stands-ok = ((λ k z. no-last z), ((λ k z. no-last z), tt));
       };
-      queues = (rw (eq-eqb p p refl, ne-eqb q p (λ z. pq (sym z))) (refl, refl, refl), (rw (ne-eqb p q pq, eq-eqb q q refl) (refl, refl, refl), tt));
+      queues = (
+        rw (eq-eqb p p refl, ne-eqb q p (λ z. pq (sym z)))
+            (refl, refl, refl),
+        (rw (ne-eqb p q pq, eq-eqb q q refl) (refl, refl, refl), tt),
+      );
       others = λ k o. rw (ne-eqb p k (λ z. o .0 (sym z)), ne-eqb q k (λ z. o .1 .0 (sym z)));
     }
       where

@@ -50,7 +50,8 @@ module _ (code : List ℕ) (bytes : (i : ℕ) → getD code i 0 < 256) where
 
   signed-within : (place k : ℕ) → ValueWithin (signedAt code place k)
   signed-within place k =
-      let fits : Fits w32 (65536 * placeAt code place k + placeAt code place (k + 2)) = record { fits = omega (arith, place-within place k, place-within place (k + 2)) } in
+      let fits : Fits w32 (65536 * placeAt code place k + placeAt code place (k + 2)) = record
+      { fits = omega (arith, place-within place k, place-within place (k + 2)) } in
       sfits-toZ {w = w32} fits .sfits
 
   operands-within : (place : ℕ) (name : Name) → OperandsWithin (instructionAt code place name)
@@ -71,7 +72,8 @@ module _ (code : List ℕ) (bytes : (i : ℕ) → getD code i 0 < 256) where
   operands-within place same-name = tt
   operands-within place hput-name = bytes (place + 2)
   operands-within place hcase-name =
-      table-all (λ (n : ℕ). n < placeCount) 0 (omega arith) (byteAt code place 2) (λ (i : ℕ). placeAt code place (3 + 2 * i)) (λ i. place-within place (3 + 2 * i))
+      table-all (λ (n : ℕ). n < placeCount) 0 (omega arith) (byteAt code place 2) (λ (i : ℕ). placeAt code place (3 + 2 * i))
+      (λ i. place-within place (3 + 2 * i))
   operands-within place run-name = place-within place 1
 
   -- what is decoded
@@ -84,7 +86,8 @@ module _ (code : List ℕ) (bytes : (i : ℕ) → getD code i 0 < 256) where
   decoded-within place d h = go (formOf (byteAt code place 0)) h
     where
       found : (f : Form) (b : Bool) → noCause (misfits code place f) ≡ b
-          → decodedIf b (record { instruction = instructionAt code place (f .name); next = placeAfter code place f }) ≡ some d → DecodedWithin d
+          → decodedIf b (record { instruction = instructionAt code place (f .name); next = placeAfter code place f }) ≡ some d
+          → DecodedWithin d
       found f true q h =
           let is : record { instruction = instructionAt code place (f .name); next = placeAfter code place f } ≡ d = cc in
           subst DecodedWithin is (record {

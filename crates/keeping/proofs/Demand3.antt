@@ -42,7 +42,8 @@ record-position : (st : State) → Sound st → (r : ℕ) (st′ : State) → as
 unfolding ask askRecord
 record-position st s r st′ h = go (recordAt st r) refl h
   where
-    go : (x : RecordState) → recordAt st r ≡ x → askIn st r x ≡ done st′ → pickAnswer (ltb r recordCount) (askIn st r (recordAt st r)) (askEnd st (r - recordCount)) ≡ done st′
+    go : (x : RecordState) → recordAt st r ≡ x → askIn st r x ≡ done st′
+        → pickAnswer (ltb r recordCount) (askIn st r (recordAt st r)) (askEnd st (r - recordCount)) ≡ done st′
     go free-record q k = refused-is-not-done k
     go (waiting g) q k = refused-is-not-done k
     go (running g) q k = rw (lt-ltb r recordCount (omega (arith, running-in-list st r g q, s .S1 .record-count))) h
@@ -75,7 +76,8 @@ run-call : (m : List ℕ) → SoundMemory m → (budget p : ℕ) (b : Bool) → 
     (reachedOr m (refuseIf b 25 (done (runFrom budget (view m) p))))
 unfolding runFrom ranBy
 run-call m h budget p true q = record { sound-after = h; chain = here }
-run-call m h budget p false q = done-called m h (steps budget (view m) p) _ (run-chain (steps-are budget (view m) p (leb-false positionCount p q)))
+run-call m h budget p false q = done-called m h (steps budget (view m) p) _
+    (run-chain (steps-are budget (view m) p (leb-false positionCount p q)))
 
 one-call : (m : List ℕ) → SoundMemory m → (c : Call) → Called′ m (callSteps m c) (memoryAfter m c)
 unfolding callSteps memoryAfter callRecord callEnd callRun runAnswer unless
@@ -83,11 +85,13 @@ one-call m h (ask-record r) =
     subst (λ (a : Answer State). Called′ m (stepIf r (view m) a) (called m a .memory)) (sym (where-sound m (askRecord (view m) r) h))
     (asked-call m h r (askRecord (view m) r) (λ st′ q. record-position (view m) (h .state-sound) r st′ q))
 one-call m h (ask-end e) =
-    subst (λ (a : Answer State). Called′ m (stepIf (recordCount + e) (view m) a) (called m a .memory)) (sym (where-sound m (askEnd (view m) e) h))
+    subst (λ (a : Answer State). Called′ m (stepIf (recordCount + e) (view m) a) (called m a .memory))
+    (sym (where-sound m (askEnd (view m) e) h))
     (asked-call m h (recordCount + e) (askEnd (view m) e) (λ st′ q. end-position (view m) e st′ q))
 one-call m h (run budget p) =
     subst (λ (a : Answer Ran). Called′ m (stepsIf a (steps budget (view m) p)) (reachedOr m a))
-    (sym (where-sound m (unless (startCause p ∷ []) (done (runFrom budget (view m) p))) h)) (run-call m h budget p (leb positionCount p) refl)
+    (sym (where-sound m (unless (startCause p ∷ []) (done (runFrom budget (view m) p))) h))
+    (run-call m h budget p (leb positionCount p) refl)
 
 -- ---- a list of calls
 
@@ -121,7 +125,8 @@ Numbered [] = Unit {0}
 Numbered (row ∷ rows) = (0 < row .0) × Numbered rows
 
 -- 0 is returned only where no row holds
-unless-zero : {A : Type 0} (rows : List Row) (x : Answer A) → Numbered rows → numberOf (unless rows x) ≡ 0 → NoCause rows × (unless rows x ≡ x) × (numberOf x ≡ 0)
+unless-zero : {A : Type 0} (rows : List Row) (x : Answer A) → Numbered rows → numberOf (unless rows x) ≡ 0
+    → NoCause rows × (unless rows x ≡ x) × (numberOf x ≡ 0)
 unfolding unless
 unless-zero [] x n h = (tt, refl, h)
 unless-zero (row ∷ rows) x n h = go (row .1) refl h (unless-zero rows x (n .1))
@@ -149,18 +154,28 @@ pub loaded : (m image : List ℕ) → ((i : ℕ) → getD image i 0 < 256) → l
 unfolding load readImage readCauses codeIn imageData
 loaded m image b h =
     let outer = unless-zero (lengthCause m ∷ []) (started (readImage image)) (omega arith, tt) h in
-    let inner = unless-zero (readCauses image) (done (codeIn image))
-    (omega arith, (omega arith, (omega arith, (omega arith, (omega arith, (omega arith, (omega arith, (omega arith, (omega arith, (omega arith, tt))))))))))
+    let inner = unless-zero (readCauses image) (done (codeIn image)) (
+      omega arith,
+      (
+        omega arith,
+        (
+          omega arith,
+          (omega arith, (omega arith, (omega arith, (omega arith, (omega arith, (omega arith, (omega arith, tt))))))),
+        ),
+      ),
+    )
     (sym (started-number (readImage image)) ∙ outer .2) in
     let short : codeLength image ≤ codeLimit = ltb-false codeLimit (codeLength image) (inner .0 .1 .1 .1 .1 .1 .1 .1 .0) in
     let body = drop headSize (dataIn (blocksIn image) image) in
-    let bytes = all-take Byte 0 (codeLength image) body (omega arith) (all-drop Byte 0 headSize (dataIn (blocksIn image) image) (data-bytes (blocksIn image) image b)) in (
+    let bytes = all-take Byte 0 (codeLength image) body (omega arith)
+    (all-drop Byte 0 headSize (dataIn (blocksIn image) image) (data-bytes (blocksIn image) image b)) in (
       ap (λ (a : Answer State). called m a .memory) (outer .1 ∙ ap started (inner .1)),
       start-sound (codeIn image) (omega (arith, length-take (codeLength image) body, min-le-left (codeLength image) (length body))) bytes,
     )
 
 -- for every image that loads, and every list of asks and runs from there, refused ones among them
-pub demand-3 : (m image : List ℕ) → ((i : ℕ) → getD image i 0 < 256) → load m image .number ≡ 0 → (calls : List Call) → Demand3 (load m image .memory) calls
+pub demand-3 : (m image : List ℕ) → ((i : ℕ) → getD image i 0 < 256) → load m image .number ≡ 0 → (calls : List Call)
+    → Demand3 (load m image .memory) calls
 demand-3 m image b h calls =
     let l = loaded m image b h in
     let code = codeIn image in

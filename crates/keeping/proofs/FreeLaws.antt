@@ -34,7 +34,8 @@ module _ {A : Type 0} (test : A → Bool) (d : A) where
   passing k [] = tt
   passing k (x ∷ xs) = go (test x) refl (shifted k x xs (placesFrom (suc k) test xs) (passing (suc k) xs))
     where
-      go : (b : Bool) → test x ≡ b → Passing k test d (x ∷ xs) (placesFrom (suc k) test xs) → Passing k test d (x ∷ xs) (prependIf b k (placesFrom (suc k) test xs))
+      go : (b : Bool) → test x ≡ b → Passing k test d (x ∷ xs) (placesFrom (suc k) test xs)
+          → Passing k test d (x ∷ xs) (prependIf b k (placesFrom (suc k) test xs))
       go true q h = ((0, omega arith, omega arith, q), h)
       go false q h = h
 
@@ -70,15 +71,21 @@ free-record-is free-record h = refl
 free-record-is (running g) h = true-is-not-false h refl
 free-record-is (waiting g) h = true-is-not-false h refl
 
-free-end-at : (st : State) (e : ℕ) → ((j : ℕ) × (e ≡ 0 + j) × (j < length (st .ends)) × (isFreeEnd (getD (st .ends) j free-end) ≡ true)) → FreeEnd st e
+free-end-at : (st : State) (e : ℕ) → ((j : ℕ) × (e ≡ 0 + j) × (j < length (st .ends)) × (isFreeEnd (getD (st .ends) j free-end) ≡ true))
+    → FreeEnd st e
 free-end-at st e h =
     let q : h .0 ≡ e = omega (arith, h .1) in
     record { is-free = subst (λ (j : ℕ). endAt st j ≡ free-end) q (free-end-is (endAt st (h .0)) (h .3)); in-list = omega (arith, h .2) }
 
-free-record-at : (st : State) (r : ℕ) → ((j : ℕ) × (r ≡ 0 + j) × (j < length (st .records)) × (isFreeRecord (getD (st .records) j free-record) ≡ true)) → FreeRecord st r
+free-record-at : (st : State) (r : ℕ) → ((j : ℕ) × (r ≡ 0 + j) × (j < length (st .records)) ×
+    (isFreeRecord (getD (st .records) j free-record) ≡ true)) → FreeRecord st r
 free-record-at st r h =
     let q : h .0 ≡ r = omega (arith, h .1) in
-    record { is-free = subst (λ (j : ℕ). recordAt st j ≡ free-record) q (free-record-is (recordAt st (h .0)) (h .3)); in-list = omega (arith, h .2) }
+    record {
+      is-free = subst (λ (j : ℕ). recordAt st j ≡ free-record) q (free-record-is (recordAt st (h .0)) (h .3));
+      in-list = omega
+          (arith, h .2);
+    }
 
 -- ---- the names that the machine passes
 
@@ -94,16 +101,20 @@ pub record FourFree (st : State) (p q s t : ℕ) : Type 0 where
 
 pub two-free : (st : State) → fewFreeEnds 2 st ≡ false → TwoFree st (lowestFree st .p) (lowestFree st .q)
 unfolding lowestFree freeEnds
-two-free st h = go (freeEnds st) (passing isFreeEnd free-end 0 (st .ends)) (rising isFreeEnd free-end 0 (st .ends)) (ltb-false (length (freeEnds st)) 2 h)
+two-free st h = go (freeEnds st) (passing isFreeEnd free-end 0 (st .ends)) (rising isFreeEnd free-end 0 (st .ends))
+    (ltb-false (length (freeEnds st)) 2 h)
   where
-    go : (l : List ℕ) → Passing 0 isFreeEnd free-end (st .ends) l → Above 0 l → 2 ≤ length l → TwoFree st (getD l 0 endCount) (getD l 1 endCount)
+    go : (l : List ℕ) → Passing 0 isFreeEnd free-end (st .ends) l → Above 0 l → 2 ≤ length l
+        → TwoFree st (getD l 0 endCount) (getD l 1 endCount)
     go [] f a n = absurd (omega arith)
     go (p ∷ []) f a n = absurd (omega arith)
     go (p ∷ q ∷ l) f a n = record { p-free = free-end-at st p (f .0); q-free = free-end-at st q (f .1 .0); p-below-q = a .1 .0 }
 
-pub four-free : (st : State) → fewFreeEnds 4 st ≡ false → FourFree st (lowestFree st .p) (lowestFree st .q) (lowestFree st .s) (lowestFree st .t)
+pub four-free : (st : State) → fewFreeEnds 4 st ≡ false
+    → FourFree st (lowestFree st .p) (lowestFree st .q) (lowestFree st .s) (lowestFree st .t)
 unfolding lowestFree freeEnds
-four-free st h = go (freeEnds st) (passing isFreeEnd free-end 0 (st .ends)) (rising isFreeEnd free-end 0 (st .ends)) (ltb-false (length (freeEnds st)) 4 h)
+four-free st h = go (freeEnds st) (passing isFreeEnd free-end 0 (st .ends)) (rising isFreeEnd free-end 0 (st .ends))
+    (ltb-false (length (freeEnds st)) 4 h)
   where
     go : (l : List ℕ) → Passing 0 isFreeEnd free-end (st .ends) l → Above 0 l → 4 ≤ length l
         → FourFree st (getD l 0 endCount) (getD l 1 endCount) (getD l 2 endCount) (getD l 3 endCount)

@@ -69,7 +69,8 @@ module _ (st : State) (s : Sound st) (r : ℕ) (g : Registers) (is : recordAt st
       rw (getD-set-other (st .records) r r′ free-record free-record other) there
 
   pub same-move : Move st
-      (setRecord (setEnd (setEnd (setEnd (setEnd st x free-end) y free-end) m (used n (pm .queued) (pm .final))) n (used m (pn .queued) (pn .final))) r free-record)
+      (setRecord (setEnd (setEnd (setEnd (setEnd st x free-end) y free-end) m (used n (pm .queued) (pm .final))) n
+      (used m (pn .queued) (pn .final))) r free-record)
       []
   unfolding about
   same-move = record {
@@ -90,14 +91,29 @@ module _ (st : State) (s : Sound st) (r : ℕ) (g : Registers) (is : recordAt st
           y-was,
           used-in-list st y n [] none y-was,
           ((λ z. apart (sym z)), ((λ z. pn .differs (sym z)), tt)),
-          (pm .was, used-in-list st m x (pm .queued) (pm .final) (pm .was), (mn, tt), (pn .was, used-in-list st n y (pn .queued) (pn .final) (pn .was), tt, tt)),
+          (
+            pm .was,
+            used-in-list st m x (pm .queued) (pm .final)
+                (pm .was),
+            (mn, tt),
+            (pn .was, used-in-list st n y (pn .queued) (pn .final) (pn .was), tt, tt),
+          ),
         ),
       );
       records-were = (is, running-in-list st r g is, tt, tt);
       ends-ok = (tt, (tt, (kept m x (pm .queued) (pm .final) (pm .was) n, (kept n y (pn .queued) (pn .final) (pn .was) m, tt))));
       records-ok = (tt, tt);
       apart-ok = (refl, (refl, (δ-ne m n mn, (δ-ne n m (λ z. mn (sym z)), tt))));
-      mutual-ok = λ k f. omega (arith, swapped m n k f, swapped n m k f, swapped x m k f, swapped m x k f, swapped y n k f, swapped n y k f);
+      mutual-ok = λ k f. omega (
+        arith,
+        swapped m n k f,
+        swapped n m k f,
+        swapped x m k f,
+        swapped m x k f,
+        swapped y n k f,
+        swapped n y k
+            f,
+      );
       places-ok = λ k. omega (arith, places k);
       waits-ok = λ k. omega arith;
       waits-were = (omega (arith, unnamed m x (pm .queued) (pm .final) (pm .was), unnamed n y (pn .queued) (pn .final) (pn .was)), tt);

@@ -1,4 +1,5 @@
--- The layout of the state memory: it has the fixed length, and reading back a laid-out state within the limits gives the state. Assumes nothing.
+-- The layout of the state memory: it has the fixed length, and reading back a laid-out state within the limits gives the state. Assumes
+-- nothing.
 use mathlib.Core.Path.{_≡_, refl, sym, ap, _∙_, subst}
 use mathlib.Core.Bool.{Bool, true, false}
 use mathlib.Core.Option.{Option, none, some}
@@ -41,7 +42,8 @@ pub length-registers : (g : Registers) → suc (length (registersBytes g)) ≡ r
 unfolding registersBytes
 length-registers g = omega (
   arith,
-  length-append (map optional (pad slotCount none (g .slots))) (flat valueBytes (pad stackDepth (pos 0) (g .stack)) ++ flat valueBytes (pad environmentDepth (pos 0) (g .environment))),
+  length-append (map optional (pad slotCount none (g .slots)))
+      (flat valueBytes (pad stackDepth (pos 0) (g .stack)) ++ flat valueBytes (pad environmentDepth (pos 0) (g .environment))),
   length-append (flat valueBytes (pad stackDepth (pos 0) (g .stack))) (flat valueBytes (pad environmentDepth (pos 0) (g .environment))),
   length-slots (g .slots),
   length-values stackDepth (g .stack),
@@ -56,7 +58,8 @@ length-record (waiting g) = length-registers g
 
 pub length-queue : (x : EndState) → length (queueBytes x) ≡ queueSize
 unfolding queueBytes
-length-queue x = length-flat (bytesOf cellSize) cellSize (length-bytes cellSize) (pad queueDepth 0 (queueCells x)) ∙ ap (λ (k : ℕ). cellSize * k) (length-pad queueDepth 0 (queueCells x))
+length-queue x = length-flat (bytesOf cellSize) cellSize (length-bytes cellSize) (pad queueDepth 0 (queueCells x))
+    ∙ ap (λ (k : ℕ). cellSize * k) (length-pad queueDepth 0 (queueCells x))
 
 -- as many records and ends as there should be
 pub record Sized (st : State) : Type 0 where

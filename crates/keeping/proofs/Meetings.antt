@@ -23,7 +23,8 @@ use Rattle.keeping.proofs.Creating.{swapped, no-last}
 
 -- ---- a pair of ends, the second with a wait for record r alone on its queue
 
-module _ (st : State) (s : Sound st) (e f r : ℕ) (g : Registers) (f-was : endAt st f ≡ used e [] (some (wait-item r))) (is : recordAt st r ≡ waiting g) where
+module _ (st : State) (s : Sound st) (e f r : ℕ) (g : Registers) (f-was : endAt st f ≡ used e [] (some (wait-item r)))
+    (is : recordAt st r ≡ waiting g) where
   -- the other waits that name the record: there are none
   unnamed : (k m : ℕ) (ds : List Datum) (l : Option Last) → k ≢ f → endAt st k ≡ used m ds l → namedBy r (used m ds l) ≡ 0
   unfolding waitsNaming
@@ -41,7 +42,8 @@ module _ (st : State) (s : Sound st) (e f r : ℕ) (g : Registers) (f-was : endA
   f-apart = subst (λ (x : EndState). mates f x ≡ 0) f-was (mated-of-paired st (s .S2) .apart f)
 
   -- a datum: it is taken from the head of e, the wait is removed, the record runs with the registers g′
-  pub deliver-move : (d : Datum) (ds : List Datum) (l : Option Last) (g′ : Registers) → endAt st e ≡ used f (d ∷ ds) l → e ≢ f → RegistersWithin g′
+  pub deliver-move : (d : Datum) (ds : List Datum) (l : Option Last) (g′ : Registers) → endAt st e ≡ used f (d ∷ ds) l → e ≢ f
+      → RegistersWithin g′
       → ((k : ℕ) → total (inSlot k) (g′ .slots) ≡ total (inSlot k) (g .slots))
       → Move st (setRecord (setEnd (setEnd st e (used f ds l)) f (used e [] none)) r (running g′)) (taken-from e d ∷ [])
   unfolding about
@@ -50,7 +52,13 @@ module _ (st : State) (s : Sound st) (e f r : ℕ) (g : Registers) (f-was : endA
     records = (r, waiting g, running g′) ∷ [];
     is = refl;
     meets = record {
-      ends-were = (e-was, used-in-list st e f (d ∷ ds) l e-was, (differ, tt), (f-was, used-in-list st f e [] (some (wait-item r)) f-was, tt, tt));
+      ends-were = (
+        e-was,
+        used-in-list st e f (d ∷ ds) l
+            e-was,
+        (differ, tt),
+        (f-was, used-in-list st f e [] (some (wait-item r)) f-was, tt, tt),
+      );
       records-were = (is, waiting-in-list st r g is, tt, tt);
       ends-ok = (shorter l (subst EndWithin e-was (s .S1 .ends-within e)), ((omega arith, λ i. omega arith), tt));
       records-ok = (w, tt);
@@ -76,7 +84,15 @@ module _ (st : State) (s : Sound st) (e f r : ℕ) (g : Registers) (f-was : endA
       still : (k : ℕ) → l ≡ some (wait-item k) → StandsAt (st .code) e (getD (set (st .records) r (running g′)) k free-record)
       still k z =
           let there = s .S5 e k (ap lastOf e-was ∙ z) in
-          let other : k ≢ r = λ (q : k ≡ r). absurd (omega (arith, unnamed e f (d ∷ ds) l differ e-was, ap (λ (x : Option Last). namedBy r (used f (d ∷ ds) x)) z, ap (δ r) q, δ-same r)) in
+          let other : k ≢ r = λ (q : k ≡ r). absurd
+          (omega (
+            arith,
+            unnamed e f (d ∷ ds) l differ e-was,
+            ap (λ (x : Option Last). namedBy r (used f (d ∷ ds) x)) z,
+            ap
+                (δ r) q,
+            δ-same r,
+          )) in
           rw (getD-set-other (st .records) r k (running g′) free-record other) there
 
   -- a split: both ends of the pair go out of use, the record runs with the first branch, a free one with the second
@@ -90,7 +106,13 @@ module _ (st : State) (s : Sound st) (e f r : ℕ) (g : Registers) (f-was : endA
     records = (r, waiting g, running g₁) ∷ (r′, free-record, running g₂) ∷ [];
     is = refl;
     meets = record {
-      ends-were = (e-was, used-in-list st e f [] (some (split-item p q)) e-was, (differ, tt), (f-was, used-in-list st f e [] (some (wait-item r)) f-was, tt, tt));
+      ends-were = (
+        e-was,
+        used-in-list st e f []
+            (some (split-item p q)) e-was,
+        (differ, tt),
+        (f-was, used-in-list st f e [] (some (wait-item r)) f-was, tt, tt),
+      );
       records-were = (is, waiting-in-list st r g is, (other, tt), (free .is-free, free .in-list, tt, tt));
       ends-ok = (tt, (tt, tt));
       records-ok = (w₁, (w₂, tt));
@@ -113,7 +135,8 @@ module _ (st : State) (s : Sound st) (e f r : ℕ) (g : Registers) (f-was : endA
 
 -- ---- close against close
 
-pub close-move : (st : State) → Sound st → (e f : ℕ) → endAt st e ≡ used f [] (some close-item) → endAt st f ≡ used e [] (some close-item) → e ≢ f
+pub close-move : (st : State) → Sound st → (e f : ℕ) → endAt st e ≡ used f [] (some close-item) → endAt st f ≡ used e [] (some close-item)
+    → e ≢ f
     → Move st (setEnd (setEnd st e free-end) f free-end) []
 unfolding about
 close-move st s e f e-was f-was differ = record {
@@ -121,7 +144,13 @@ close-move st s e f e-was f-was differ = record {
   records = [];
   is = refl;
   meets = record {
-    ends-were = (e-was, used-in-list st e f [] (some close-item) e-was, (differ, tt), (f-was, used-in-list st f e [] (some close-item) f-was, tt, tt));
+    ends-were = (
+      e-was,
+      used-in-list st e f []
+          (some close-item) e-was,
+      (differ, tt),
+      (f-was, used-in-list st f e [] (some close-item) f-was, tt, tt),
+    );
     records-were = tt;
     ends-ok = (tt, (tt, tt));
     records-ok = tt;

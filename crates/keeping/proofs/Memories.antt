@@ -1,5 +1,5 @@
--- Memories: the test on bytes passes exactly if the bytes are the layout of a sound state (`memory-of-test`, `test-of-memory`), and the layout of
--- a sound state shows that state (`sound-layout`). Assumes nothing.
+-- Memories: the test on bytes passes exactly if the bytes are the layout of a sound state (`memory-of-test`, `test-of-memory`), and the
+-- layout of a sound state shows that state (`sound-layout`). Assumes nothing.
 use mathlib.Core.Path.{_≡_, refl, sym, ap, _∙_, subst}
 use mathlib.Core.Bool.{Bool, true, false}
 use mathlib.Core.Option.{Option, none, some}
@@ -33,7 +33,8 @@ same-bytes [] (y ∷ ys) h = true-is-not-false h refl
 same-bytes (x ∷ xs) [] h = true-is-not-false h refl
 same-bytes (x ∷ xs) (y ∷ ys) h = go (eqb x y) refl h (same-bytes xs ys)
   where
-    go : (b : Bool) → eqb x y ≡ b → elim b [ true ↦ sameBytes xs ys | false ↦ false ] ≡ true → (sameBytes xs ys ≡ true → xs ≡ ys) → x ∷ xs ≡ y ∷ ys
+    go : (b : Bool) → eqb x y ≡ b → elim b [ true ↦ sameBytes xs ys | false ↦ false ] ≡ true → (sameBytes xs ys ≡ true → xs ≡ ys) → x ∷ xs
+        ≡ y ∷ ys
     go true q h f = λ i. eqb-true x y q i ∷ f h i
     go false q h f = true-is-not-false h refl
 

@@ -1,6 +1,6 @@
--- A move is a patch that meets the obligations of `Change` together with the events of the step. From it, each proved once for every step:
--- a sound state stays sound (`move-sound`), each event is a change of its queue (`move-queues`), a history that agrees with its queue goes on
--- agreeing (`agrees-on`), and nothing queued is lost (`nothing-lost`). Assumes nothing.
+-- A move is a patch that meets the obligations of `Change` together with the events of the step. From it, each proved once for every
+-- step: a sound state stays sound (`move-sound`), each event is a change of its queue (`move-queues`), a history that agrees with its
+-- queue goes on agreeing (`agrees-on`), and nothing queued is lost (`nothing-lost`). Assumes nothing.
 use mathlib.Core.Path.{_≡_, refl, sym, ap, _∙_, subst}
 use mathlib.Core.Bool.{Bool, true, false}
 use mathlib.Core.List.{List, [], _∷_, _++_, append-assoc}
@@ -98,7 +98,8 @@ agrees-change old new (created e ∷ x ∷ xs) h c a = absurd c
 agrees-change old new (put-on e d ∷ x ∷ xs) h c a = absurd c
 agrees-change old new (taken-from e d ∷ x ∷ xs) h c a = absurd c
 
-pub agrees-on : {st st′ : State} {xs : List Event} → Move st st′ xs → (h : ℕ → History) → AllAgree st h → AllAgree st′ (λ e. history e (h e) xs)
+pub agrees-on : {st st′ : State} {xs : List Event} → Move st st′ xs → (h : ℕ → History) → AllAgree st h
+    → AllAgree st′ (λ e. history e (h e) xs)
 agrees-on {st} {st′} {xs} m h a e =
     rw (history-about e (h e) xs) (agrees-change (endAt st e) (endAt st′ e) (about e xs) (h e) (move-queues m e) (a e))
 

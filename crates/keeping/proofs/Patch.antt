@@ -50,7 +50,8 @@ module _ {A : Type 0} where
   AllPut P (p ∷ ps) = P (p .0) (p .1) (p .2) × AllPut P ps
 
   -- from the old and the new at each place to the new
-  pub news-of : (Q : ℕ → A → A → Type 0) (P : ℕ → A → Type 0) (d : A) (l : List A) (ps : List (Put A)) → Valid d l ps → ((i : ℕ) (u v : A) → getD l i d ≡ u → Q i u v → P i v) → AllPut Q ps → AllNew P ps
+  pub news-of : (Q : ℕ → A → A → Type 0) (P : ℕ → A → Type 0) (d : A) (l : List A) (ps : List (Put A)) → Valid d l ps
+      → ((i : ℕ) (u v : A) → getD l i d ≡ u → Q i u v → P i v) → AllPut Q ps → AllNew P ps
   news-of Q P d l [] h f a = tt
   news-of Q P d l (p ∷ ps) h f a = (f (p .0) (p .1) (p .2) (h .0) (a .0), news-of Q P d l ps (h .3) f (a .1))
 
@@ -67,23 +68,35 @@ module _ {A : Type 0} where
   length-patched l [] = refl
   length-patched l (p ∷ ps) = length-patched (set l (p .0) (p .2)) ps ∙ length-set l (p .0) (p .2)
 
-  pub total-patch : (f : A → ℕ) (d : A) (l : List A) (ps : List (Put A)) → Valid d l ps → total f (patched ps l) + olds (λ i. f) ps ≡ total f l + news (λ i. f) ps
+  pub total-patch : (f : A → ℕ) (d : A) (l : List A) (ps : List (Put A)) → Valid d l ps → total f (patched ps l) + olds (λ i. f) ps
+      ≡ total f l + news (λ i. f) ps
   total-patch f d l [] h = refl
   total-patch f d l (p ∷ ps) h =
-      omega (arith, total-patch f d (set l (p .0) (p .2)) ps (valid-set d l (p .0) (p .2) ps (h .2) (h .3)), total-put f l (p .0) (p .2) d (h .0) (h .1))
+      omega (
+        arith,
+        total-patch f d (set l (p .0) (p .2)) ps (valid-set d l (p .0) (p .2) ps (h .2) (h .3)),
+        total-put f l (p .0) (p .2) d
+            (h .0) (h .1),
+      )
 
   pub at-patch : (f : A → ℕ) (d : A) (l : List A) (ps : List (Put A)) (k : ℕ) → Valid d l ps
       → f (getD (patched ps l) k d) + olds (λ i u. δ i k * f u) ps ≡ f (getD l k d) + news (λ i v. δ i k * f v) ps
   at-patch f d l [] k h = refl
   at-patch f d l (p ∷ ps) k h =
-      omega (arith, at-patch f d (set l (p .0) (p .2)) ps k (valid-set d l (p .0) (p .2) ps (h .2) (h .3)), at-put f l (p .0) k (p .2) d (h .0) (h .1))
+      omega (
+        arith,
+        at-patch f d (set l (p .0) (p .2)) ps k (valid-set d l (p .0) (p .2) ps (h .2) (h .3)),
+        at-put f l (p .0) k (p .2) d
+            (h .0) (h .1),
+      )
 
   pub patched-out : (d : A) (l : List A) (ps : List (Put A)) (k : ℕ) → Outside k ps → getD (patched ps l) k d ≡ getD l k d
   patched-out d l [] k o = refl
   patched-out d l (p ∷ ps) k o = patched-out d (set l (p .0) (p .2)) ps k (o .1) ∙ getD-set-other l (p .0) k (p .2) d (o .0)
 
   -- a property of every element, by its place
-  pub patched-all : (P : ℕ → A → Type 0) (d : A) (l : List A) (ps : List (Put A)) → Valid d l ps → AllNew P ps → ((k : ℕ) → Outside k ps → P k (getD l k d)) → (k : ℕ) → P k (getD (patched ps l) k d)
+  pub patched-all : (P : ℕ → A → Type 0) (d : A) (l : List A) (ps : List (Put A)) → Valid d l ps → AllNew P ps
+      → ((k : ℕ) → Outside k ps → P k (getD l k d)) → (k : ℕ) → P k (getD (patched ps l) k d)
   patched-all P d l [] h n rest k = rest k tt
   patched-all P d l (p ∷ ps) h n rest k =
       patched-all P d (set l (p .0) (p .2)) ps (valid-set d l (p .0) (p .2) ps (h .2) (h .3)) (n .1) (λ j o. go j o (ℕ-discrete j (p .0))) k
@@ -93,7 +106,8 @@ module _ {A : Type 0} where
       go j o (no e) = rw (getD-set-other l (p .0) j (p .2) d e) (rest j (e, o))
 
   -- the patched elements and one more are at most the total
-  pub total-rest : (f : A → ℕ) (d : A) (l : List A) (ps : List (Put A)) (k : ℕ) → f d ≡ 0 → Valid d l ps → Outside k ps → olds (λ i. f) ps + f (getD l k d) ≤ total f l
+  pub total-rest : (f : A → ℕ) (d : A) (l : List A) (ps : List (Put A)) (k : ℕ) → f d ≡ 0 → Valid d l ps → Outside k ps
+      → olds (λ i. f) ps + f (getD l k d) ≤ total f l
   total-rest f d l [] k z h o = omega (arith, total-one f l k d z)
   total-rest f d l (p ∷ ps) k z h o = omega (
     arith,
@@ -103,7 +117,8 @@ module _ {A : Type 0} where
   )
 
   -- a place is outside, or what is known of the old elements holds there
-  pub outside-or : (P : ℕ → A → Type 0) (d : A) (l : List A) (ps : List (Put A)) → Valid d l ps → AllOld P ps → (k : ℕ) → Outside k ps ⊎ P k (getD l k d)
+  pub outside-or : (P : ℕ → A → Type 0) (d : A) (l : List A) (ps : List (Put A)) → Valid d l ps → AllOld P ps → (k : ℕ)
+      → Outside k ps ⊎ P k (getD l k d)
   outside-or P d l [] h a k = inl tt
   outside-or P d l (p ∷ ps) h a k = go (ℕ-discrete k (p .0)) (outside-or P d l ps (h .3) (a .1) k)
     where

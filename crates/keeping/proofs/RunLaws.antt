@@ -1,5 +1,5 @@
--- Runs: the steps that the definition makes are those of `IsRun` (`steps-are`), the verdict is `VerdictIs` (`verdict-is`), and a position that
--- can step in every state of a run is taken within as many steps as there are positions (`fair`). Assumes nothing.
+-- Runs: the steps that the definition makes are those of `IsRun` (`steps-are`), the verdict is `VerdictIs` (`verdict-is`), and a
+-- position that can step in every state of a run is taken within as many steps as there are positions (`fair`). Assumes nothing.
 use mathlib.Core.Path.{_≡_, refl, sym, ap, _∙_, subst}
 use mathlib.Core.Logic.{_≢_, _⊎_, inl, inr}
 use mathlib.Core.Bool.{Bool, true, false}
@@ -42,11 +42,17 @@ ahead-add (suc k) j p = ap (λ (i : ℕ). ahead i p) (native.Mathlib.Nat.suc-add
 
 -- every position is ahead of every other
 distance-to : (p q : ℕ) → p < positionCount → q < positionCount → (d : ℕ) × (d < positionCount) × (ahead d p ≡ q)
-distance-to p q h k = ((q + positionCount - p) % positionCount, omega arith, omega (arith, ahead-is ((q + positionCount - p) % positionCount) p h))
+distance-to p q h k = (
+  (q + positionCount - p) % positionCount,
+  omega arith,
+  omega
+      (arith, ahead-is ((q + positionCount - p) % positionCount) p h),
+)
 
 -- ---- the search
 
-found-here : {n : ℕ} {st st′ : State} {p : ℕ} {s : Step} → ask st p ≡ done st′ → some (record { position = p; before = st; reached = st′ }) ≡ some s → FirstAmong (suc n) st p s
+found-here : {n : ℕ} {st st′ : State} {p : ℕ} {s : Step} → ask st p ≡ done st′
+    → some (record { position = p; before = st; reached = st′ }) ≡ some s → FirstAmong (suc n) st p s
 unfolding ahead
 found-here {n} {st} {st′} {p} {s} a q =
     let is : record { position = p; before = st; reached = st′ } ≡ s = cc in
@@ -86,7 +92,8 @@ first-found zero st p s h = not-some h
 first-found (suc n) st p s h = go (ask st p) refl h (first-found n st (nextPosition p) s)
   where
     go : (a : Answer State) → ask st p ≡ a
-        → elim a [ refused k ↦ firstOf n st (nextPosition p) | done st′ ↦ some (record { position = p; before = st; reached = st′ }) ] ≡ some s
+        → elim a [ refused k ↦ firstOf n st (nextPosition p) | done st′ ↦ some (record { position = p; before = st; reached = st′ }) ]
+        ≡ some s
         → (firstOf n st (nextPosition p) ≡ some s → FirstAmong n st (nextPosition p) s) → FirstAmong (suc n) st p s
     go (refused k) q h f = found-later (ap isDone q) (f h)
     go (done st′) q h f = found-here q h
@@ -97,8 +104,13 @@ first-none zero st p h j l = absurd (omega arith)
 first-none (suc n) st p h j l = go (ask st p) refl h (first-none n st (nextPosition p)) j l
   where
     go : (a : Answer State) → ask st p ≡ a
-        → _≡_ {A = Option Step} (elim a [ refused k ↦ firstOf n st (nextPosition p) | done st′ ↦ some (record { position = p; before = st; reached = st′ }) ]) none
-        → (firstOf n st (nextPosition p) ≡ none → (j : ℕ) → j < n → CannotStep st (ahead j (nextPosition p))) → (j : ℕ) → j < suc n → CannotStep st (ahead j p)
+        → _≡_ {A = Option Step} (elim a [
+          | refused k ↦ firstOf n st (nextPosition p)
+          | done st′ ↦ some
+              (record { position = p; before = st; reached = st′ })
+        ]) none
+        → (firstOf n st (nextPosition p) ≡ none → (j : ℕ) → j < n → CannotStep st (ahead j (nextPosition p))) → (j : ℕ) → j < suc n
+        → CannotStep st (ahead j p)
     go (done st′) q h f j l = not-none h
     go (refused k) q h f zero l = ap isDone q
     go (refused k) q h f (suc j) l = f h j (le-of-suc-le-suc l)
@@ -158,7 +170,8 @@ verdict-is st = go (nextStep st 0) refl
 -- ---- fairness
 
 -- a position that can step is not passed over: each step comes nearer to it, or takes it
-near-taken : (d q budget : ℕ) (st : State) (p : ℕ) (ss : List Step) → IsRun budget st p ss → ahead d p ≡ q → EveryStateCan q ss → d < length ss
+near-taken : (d q budget : ℕ) (st : State) (p : ℕ) (ss : List Step) → IsRun budget st p ss → ahead d p ≡ q → EveryStateCan q ss
+    → d < length ss
     → TakenWithin (suc d) q ss
 near-taken d q zero st p [] budget-used a can k = absurd (omega arith)
 near-taken d q (suc budget) st p [] (nothing-can f) a can k = absurd (omega arith)
@@ -172,7 +185,8 @@ near-taken d q (suc budget) st p (s ∷ ss) (goes-on f r) a can k =
     not-past (yes h) = true-is-not-false here-can (subst (λ (z : ℕ). CannotStep st z) a (f .earlier-cannot d h))
     not-past (no h) = omega arith
 
-    go : Dec (f .distance ≡ d) → ((d′ : ℕ) → ahead d′ (nextPosition (s .position)) ≡ q → d′ < length ss → TakenWithin (suc d′) q ss) → TakenWithin (suc d) q (s ∷ ss)
+    go : Dec (f .distance ≡ d) → ((d′ : ℕ) → ahead d′ (nextPosition (s .position)) ≡ q → d′ < length ss → TakenWithin (suc d′) q ss)
+        → TakenWithin (suc d) q (s ∷ ss)
     go (yes e) next = (0, omega arith, omega arith, f .position-is ∙ ap (λ (i : ℕ). ahead i p) e ∙ a)
     go (no e) next =
         let reached : f .distance ≤ d = not-past (decLt d (f .distance)) in
@@ -184,7 +198,8 @@ near-taken d q (suc budget) st p (s ∷ ss) (goes-on f r) a can k =
         (suc (t .0), omega (arith, t .1), omega (arith, t .2), t .3)
 
 -- a position that can step in every state of a run is taken within as many steps as there are positions, if the run makes so many
-pub fair : (budget : ℕ) (st : State) (p q : ℕ) → p < positionCount → q < positionCount → EveryStateCan q (steps budget st p) → positionCount ≤ length (steps budget st p)
+pub fair : (budget : ℕ) (st : State) (p q : ℕ) → p < positionCount → q < positionCount → EveryStateCan q (steps budget st p)
+    → positionCount ≤ length (steps budget st p)
     → TakenWithin positionCount q (steps budget st p)
 fair budget st p q l k can made =
     let d = distance-to p q l k in

@@ -1,6 +1,6 @@
--- What is known of a running record in a sound state: it is in the list, its registers are within the limits, and the end in each of its slots
--- is in use with no last item. And the moves that every instruction is made of: registers put anew (`quiet-move`), a datum appended
--- (`datum-move`), a last item appended (`last-move`). Assumes nothing.
+-- What is known of a running record in a sound state: it is in the list, its registers are within the limits, and the end in each of
+-- its slots is in use with no last item. And the moves that every instruction is made of: registers put anew (`quiet-move`), a datum
+-- appended (`datum-move`), a last item appended (`last-move`). Assumes nothing.
 use mathlib.Core.Path.{_≡_, refl, sym, ap, _∙_, subst}
 use mathlib.Core.Logic.{_≢_}
 use mathlib.Core.Bool.{Bool, true, false}
@@ -44,7 +44,8 @@ pub used-in-list : (st : State) (e m : ℕ) (ds : List Datum) (l : Option Last) 
 used-in-list st e m ds l q = weighs-in inUse (st .ends) e free-end refl (omega (arith, ap inUse q))
 
 -- a list of data within the limits, with one more behind
-pub data-more : (ds : List Datum) (d : Datum) → ((i : ℕ) → DatumWithin (getD ds i (handle 0))) → DatumWithin d → (i : ℕ) → DatumWithin (getD (ds ++ d ∷ []) i (handle 0))
+pub data-more : (ds : List Datum) (d : Datum) → ((i : ℕ) → DatumWithin (getD ds i (handle 0))) → DatumWithin d → (i : ℕ)
+    → DatumWithin (getD (ds ++ d ∷ []) i (handle 0))
 data-more [] d h w zero = w
 data-more [] d h w (suc i) = omega arith
 data-more (x ∷ xs) d h w zero = h 0
@@ -71,7 +72,8 @@ module _ (st : State) (s : Sound st) (r : ℕ) (g : Registers) (is : recordAt st
   unfolding placesOf
   no-wait c e r′ h q =
       let there = s .S5 e r′ q in
-      let also : 0 < heldIn e (recordAt st r′) = rw (there .waits) (slot-counts (there .held .slots) (there .wait .slot) e (there .holds)) in
+      let also : 0 < heldIn e (recordAt st r′) = rw (there .waits) (slot-counts (there .held .slots) (there .wait .slot) e (there .holds))
+      in
       let differ : r ≢ r′ = λ z. absurd (omega (arith, ap isWaiting (sym is ∙ ap (recordAt st) z ∙ there .waits))) in
       let one : inUse (endAt st e) ≤ 1 = le-one (endAt st e) in
       omega (arith, total-two (heldIn e) (st .records) r r′ free-record refl differ, held-here c e h, s .S3 e)
@@ -129,7 +131,8 @@ module _ (st : State) (s : Sound st) (r : ℕ) (g : Registers) (is : recordAt st
     queued-within = subst Rattle.rules.specs.Sound.EndWithin was (s .S1 .ends-within e) .1
 
     -- a datum; the record goes on with registers that hold what was held
-    pub datum-move : (d : Datum) (g′ : Registers) → DatumWithin d → RegistersWithin g′ → ((k : ℕ) → total (inSlot k) (g′ .slots) ≡ total (inSlot k) (g .slots))
+    pub datum-move : (d : Datum) (g′ : Registers) → DatumWithin d → RegistersWithin g′
+        → ((k : ℕ) → total (inSlot k) (g′ .slots) ≡ total (inSlot k) (g .slots))
         → Move st (setRecord (setEnd st e (used m (ds ++ d ∷ []) none)) r (running g′)) (put-on e d ∷ [])
     unfolding about
     datum-move d g′ wd w q = record {

@@ -1,6 +1,6 @@
--- Laws of the slots: what the refusals 8 and 10 leave. Emptying and filling a slot changes a count by that slot; the slots of two branches are
--- together those of the record; a callee gets all that is listed. `weight` is any count of a slot that an empty one does not change.
--- Assumes nothing.
+-- Laws of the slots: what the refusals 8 and 10 leave. Emptying and filling a slot changes a count by that slot; the slots of two
+-- branches are together those of the record; a callee gets all that is listed. `weight` is any count of a slot that an empty one does
+-- not change. Assumes nothing.
 use mathlib.Core.Path.{_≡_, refl, sym, ap, _∙_, subst}
 use mathlib.Core.Logic.{_≢_}
 use mathlib.Core.Bool.{Bool, true, false, not, xor, _&&_, _||_}
@@ -43,7 +43,8 @@ module _ (weight : Option ℕ → ℕ) (light : weight none ≡ 0) where
   pub emptied-total : (l : Slots) (c : ℕ) → c < length l → total weight (emptied l c) + weight (getD l c none) ≡ total weight l
   emptied-total l c h = omega (arith, total-set weight l c none none h, light)
 
-  pub holding-total : (l : Slots) (a e : ℕ) → a < length l → getD l a none ≡ none → total weight (holding l a e) ≡ total weight l + weight (some e)
+  pub holding-total : (l : Slots) (a e : ℕ) → a < length l → getD l a none ≡ none → total weight (holding l a e)
+      ≡ total weight l + weight (some e)
   holding-total l a e h q = omega (arith, total-set weight l a (some e) none h, ap weight q, light)
 
   -- nothing held weighs nothing
@@ -55,7 +56,8 @@ module _ (weight : Option ℕ → ℕ) (light : weight none ≡ 0) where
 
   -- ---- branches
 
-  kept-bits : (b b′ : Bool) (x : Option ℕ) → (b && b′) ≡ false → xor (b || b′) (isHeld x) ≡ false → weight (keptIf b x) + weight (keptIf b′ x) ≡ weight x
+  kept-bits : (b b′ : Bool) (x : Option ℕ) → (b && b′) ≡ false → xor (b || b′) (isHeld x) ≡ false
+      → weight (keptIf b x) + weight (keptIf b′ x) ≡ weight x
   unfolding xor
   kept-bits true true x h k = true-is-not-false refl h
   kept-bits true false x h k = omega (arith, light)
@@ -114,7 +116,8 @@ kept-emptied m m′ (x ∷ xs) zero h =
     let off = kept-off (lowBit m) (lowBit m′) x (or-left (xor (lowBit m || lowBit m′) false) (notTogether (m / 2) (m′ / 2) xs) h) in
     (rw (off .0, kept-none (lowBit m)), rw (off .1, kept-none (lowBit m′)))
 kept-emptied m m′ (x ∷ xs) (suc c) h =
-    let rest = kept-emptied (m / 2) (m′ / 2) xs c (or-right (xor (lowBit m || lowBit m′) (isHeld x)) (notTogether (m / 2) (m′ / 2) (emptied xs c)) h) in
+    let rest = kept-emptied (m / 2) (m′ / 2) xs c
+    (or-right (xor (lowBit m || lowBit m′) (isHeld x)) (notTogether (m / 2) (m′ / 2) (emptied xs c)) h) in
     (ap (λ (l : Slots). keptIf (lowBit m) x ∷ l) (rest .0), ap (λ (l : Slots). keptIf (lowBit m′) x ∷ l) (rest .1))
 
 -- ---- a callee's slots
@@ -137,7 +140,8 @@ module _ (weight : Option ℕ → ℕ) (light : weight none ≡ 0) where
   listed-total l [] n o r = omega arith
   listed-total l (c ∷ cs) n o r =
       let within = leb-false slotCount c (or-left (over c) (anyOver cs) o) in
-      let rest = listed-total (emptied l c) cs (length-set l c none ∙ n) (or-right (over c) (anyOver cs) o) (or-right (listed c cs) (anyRepeated cs) r) in
+      let rest = listed-total (emptied l c) cs (length-set l c none ∙ n) (or-right (over c) (anyOver cs) o)
+      (or-right (listed c cs) (anyRepeated cs) r) in
       let same = ap (total weight) (listed-other l c cs (or-left (listed c cs) (anyRepeated cs) r)) in
       omega (arith, rest, same, emptied-total weight light l c (omega arith))
 
@@ -164,7 +168,8 @@ held-counts l (c ∷ cs) h =
     let held = held-slot (getD l c none) (or-left (isEmpty l c) (anyEmpty l cs) h) in
     omega (arith, ap one (held .1), held-counts l cs (or-right (isEmpty l c) (anyEmpty l cs) h))
 
-listed-few : (l : Slots) (cs : List ℕ) → length l ≡ slotCount → anyOver cs ≡ false → anyEmpty l cs ≡ false → anyRepeated cs ≡ false → length cs ≤ slotCount
+listed-few : (l : Slots) (cs : List ℕ) → length l ≡ slotCount → anyOver cs ≡ false → anyEmpty l cs ≡ false → anyRepeated cs ≡ false
+    → length cs ≤ slotCount
 unfolding one
 listed-few l cs n o h r = omega (arith, listed-total one refl l cs n o r, held-counts l cs h, total-one-le l)
 

@@ -63,8 +63,10 @@ module _ (code : List ℕ) where
       total-zero (heldIn e) (start code .records) free-record (record-is (λ x. heldIn e x ≡ 0) (nothing-held e) refl),
       total-zero (carriedBy e) (start code .ends) free-end (λ f. ap (carriedBy e) (end-is-free f)),
     ));
-    S4 = λ r. total-zero (namedBy r) (start code .ends) free-end (λ f. ap (namedBy r) (end-is-free f)) ∙ sym (record-is (λ x. isWaiting x ≡ 0) refl refl r);
-    S5 = λ e r q. absurd (let z : none ≡ some (wait-item r) = ap lastOf (sym (end-is-free e)) ∙ q in let n : _≡_ {A = ℕ} 0 1 = cc in omega arith);
+    S4 = λ r. total-zero (namedBy r) (start code .ends) free-end (λ f. ap (namedBy r) (end-is-free f))
+        ∙ sym (record-is (λ x. isWaiting x ≡ 0) refl refl r);
+    S5 = λ e r q. absurd (let z : none ≡ some (wait-item r) = ap lastOf (sym (end-is-free e))
+        ∙ q in let n : _≡_ {A = ℕ} 0 1 = cc in omega arith);
   }
 
   pub start-agrees : AllAgree (start code) (λ e. newHistory)

@@ -43,7 +43,8 @@ answer-within : (b : Bool) → ValueWithin (yesOrNo b)
 answer-within true = omega arith
 answer-within false = omega arith
 
-module _ (st : State) (s : Sound st) (r : ℕ) (g : Registers) (is : recordAt st r ≡ running g) (new : Fresh) (d : Decoded) (there : decode (st .code) (g .place) ≡ some d) where
+module _ (st : State) (s : Sound st) (r : ℕ) (g : Registers) (is : recordAt st r ≡ running g) (new : Fresh) (d : Decoded)
+    (there : decode (st .code) (g .place) ≡ some d) where
   w : RegistersWithin g
   w = registers-within st s r g is
 
@@ -51,7 +52,8 @@ module _ (st : State) (s : Sound st) (r : ℕ) (g : Registers) (is : recordAt st
   next-within = omega (arith, decoded-within (st .code) (s .S1 .code-bytes) (g .place) d there .next-in-code, s .S1 .code-within)
 
   -- the registers at the next place with another stack
-  stack-within : (l : List Value) → length l ≤ stackDepth → ((i : ℕ) → ValueWithin (getD l i (pos 0))) → RegistersWithin (registers (d .next) l (g .environment) (g .slots))
+  stack-within : (l : List Value) → length l ≤ stackDepth → ((i : ℕ) → ValueWithin (getD l i (pos 0)))
+      → RegistersWithin (registers (d .next) l (g .environment) (g .slots))
   stack-within l n v = record {
     place-within = next-within;
     stack-within = n;
@@ -66,7 +68,8 @@ module _ (st : State) (s : Sound st) (r : ℕ) (g : Registers) (is : recordAt st
       → Move st (setRecord st r (running (registers (d .next) (v ∷ drop n (g .stack)) (g .environment) (g .slots)))) []
   pushed n v h k =
       quiet-move st s r g is (registers (d .next) (v ∷ drop n (g .stack)) (g .environment) (g .slots))
-      (stack-within (v ∷ drop n (g .stack)) k (all-cons ValueWithin (pos 0) v (drop n (g .stack)) h (all-drop ValueWithin (pos 0) n (g .stack) (w .stack-values))))
+      (stack-within (v ∷ drop n (g .stack)) k (all-cons ValueWithin (pos 0) v (drop n (g .stack)) h
+      (all-drop ValueWithin (pos 0) n (g .stack) (w .stack-values))))
       (λ k. refl)
 
   -- ---- numbers
@@ -79,7 +82,8 @@ module _ (st : State) (s : Sound st) (r : ℕ) (g : Registers) (is : recordAt st
 
   access-step : (n : ℕ) → NoCause (ownCauses g (access n)) → Move st (after st r (d .next) g new (access n)) []
   unfolding after ownCauses
-  access-step n own = pushed 0 (getD (g .environment) n (pos 0)) (w .environment-values n) (leb-false stackDepth (length (g .stack)) (own .0))
+  access-step n own = pushed 0 (getD (g .environment) n (pos 0)) (w .environment-values n)
+      (leb-false stackDepth (length (g .stack)) (own .0))
 
   -- two values popped leave room for one
   two-popped : fewer 2 g ≡ false → suc (length (drop 2 (g .stack))) ≤ stackDepth
@@ -119,10 +123,18 @@ module _ (st : State) (s : Sound st) (r : ℕ) (g : Registers) (is : recordAt st
       (record {
         place-within = subst OperandsWithin q (decoded-within (st .code) (s .S1 .code-bytes) (g .place) d there .operands);
         stack-within = omega (arith, length-drop n (g .stack), w .stack-within);
-        environment-within = omega (arith, length-reverse (take n (g .stack)), length-take n (g .stack), min-le-right n (length (g .stack)), w .stack-within);
+        environment-within = omega (
+          arith,
+          length-reverse (take n (g .stack)),
+          length-take n (g .stack),
+          min-le-right n
+              (length (g .stack)),
+          w .stack-within,
+        );
         stack-values = all-drop ValueWithin (pos 0) n (g .stack) (w .stack-values);
         environment-values =
-            all-reverse ValueWithin (pos 0) (take n (g .stack)) zero-within (all-take ValueWithin (pos 0) n (g .stack) zero-within (w .stack-values));
+            all-reverse ValueWithin (pos 0) (take n (g .stack)) zero-within
+            (all-take ValueWithin (pos 0) n (g .stack) zero-within (w .stack-values));
         slots-within = length-callee (g .slots) cs;
       })
       (λ k. callee-total (inSlot k) refl (g .slots) cs (w .slots-within) (own .1 .0) (own .1 .1 .0) (own .1 .1 .1 .0) (own .1 .1 .1 .1 .0))
@@ -149,7 +161,8 @@ module _ (st : State) (s : Sound st) (r : ℕ) (g : Registers) (is : recordAt st
   -- its queue has room for one item more
   room : (c : ℕ) (n : Named c) → queueFull st c g ≡ false → length (n .own .queued) < queueDepth
   room c n h =
-      let full : leb queueDepth (queueLength (endAt st (n .end))) ≡ false = subst (λ (x : Option ℕ). leb queueDepth (queueLength (endAt st (endOr endCount x))) ≡ false) (n .holds) h in
+      let full : leb queueDepth (queueLength (endAt st (n .end))) ≡ false = subst
+      (λ (x : Option ℕ). leb queueDepth (queueLength (endAt st (endOr endCount x))) ≡ false) (n .holds) h in
       leb-false queueDepth (length (n .own .queued)) (subst (λ (x : EndState). leb queueDepth (queueLength x) ≡ false) (n .own .was) full)
 
   put-step : (c : ℕ) → NoCause (ownCauses g (put c)) → NoCause (sharedCauses st g (put c))
@@ -160,7 +173,8 @@ module _ (st : State) (s : Sound st) (r : ℕ) (g : Registers) (is : recordAt st
       rw (n .holds, n .own .was)
       (datum-move st s r g is (n .end) (n .own .partner) (n .own .queued) (n .own .was) (room c n (shared .0)) (value (top g))
       (registers (d .next) (drop 1 (g .stack)) (g .environment) (g .slots)) (w .stack-values 0)
-      (stack-within (drop 1 (g .stack)) (omega (arith, length-drop 1 (g .stack), w .stack-within)) (all-drop ValueWithin (pos 0) 1 (g .stack) (w .stack-values)))
+      (stack-within (drop 1 (g .stack)) (omega (arith, length-drop 1 (g .stack), w .stack-within))
+      (all-drop ValueWithin (pos 0) 1 (g .stack) (w .stack-values)))
       (λ k. refl))
 
   hput-step : (c h : ℕ) → d .instruction ≡ hput c h → NoCause (ownCauses g (hput c h)) → NoCause (sharedCauses st g (hput c h))
@@ -178,10 +192,12 @@ module _ (st : State) (s : Sound st) (r : ℕ) (g : Registers) (is : recordAt st
   slot-out : (c : ℕ) (n : Named c) (k : ℕ) → total (inSlot k) (emptied (g .slots) c) + δ (n .end) k ≡ total (inSlot k) (g .slots)
   slot-out c n k = omega (arith, emptied-total (inSlot k) refl (g .slots) c (n .in-list), ap (inSlot k) (n .holds), δ-sym k (n .end))
 
-  no-wait-here : (e r′ : ℕ) (y : RecordState) → some close-item ≡ some (wait-item r′) → StandsAt (st .code) e (getD (set (st .records) r y) r′ free-record)
+  no-wait-here : (e r′ : ℕ) (y : RecordState) → some close-item ≡ some (wait-item r′)
+      → StandsAt (st .code) e (getD (set (st .records) r y) r′ free-record)
   no-wait-here e r′ y z = absurd (let n : _≡_ {A = ℕ} 0 1 = cc in omega arith)
 
-  close-step : (c : ℕ) → NoCause (ownCauses g (close c)) → NoCause (sharedCauses st g (close c)) → Move st (after st r (d .next) g new (close c)) []
+  close-step : (c : ℕ) → NoCause (ownCauses g (close c)) → NoCause (sharedCauses st g (close c))
+      → Move st (after st r (d .next) g new (close c)) []
   unfolding after ownCauses sharedCauses
   close-step c own shared =
       let n = named-slot c (own .0) (own .1 .0) in
@@ -198,7 +214,8 @@ module _ (st : State) (s : Sound st) (r : ℕ) (g : Registers) (is : recordAt st
       })
       (λ k. omega (arith, slot-out c n k)) (λ k. omega arith) (λ r′. no-wait-here (n .end) r′ (running gone)))
 
-  halt-step : (c : ℕ) → NoCause (ownCauses g (halt c)) → NoCause (sharedCauses st g (halt c)) → Move st (after st r (d .next) g new (halt c)) []
+  halt-step : (c : ℕ) → NoCause (ownCauses g (halt c)) → NoCause (sharedCauses st g (halt c))
+      → Move st (after st r (d .next) g new (halt c)) []
   unfolding after ownCauses sharedCauses
   halt-step c own shared =
       let n = named-slot c (own .0) (own .1 .0) in
@@ -220,7 +237,8 @@ module _ (st : State) (s : Sound st) (r : ℕ) (g : Registers) (is : recordAt st
       rw (n .holds, n .own .was)
       (last-move st s r g is (n .end) (n .own .partner) (n .own .queued) (n .own .was) (room (wt .slot) n full) (wait-item r) (waiting g) w
       (λ k. omega arith) (λ k. omega (arith, δ-sym k r))
-      (λ r′ z. subst (λ (q : ℕ). StandsAt (st .code) (n .end) (getD (set (st .records) r (waiting g)) q free-record)) (wait-is z) (stands (n .end) (n .holds))))
+      (λ r′ z. subst (λ (q : ℕ). StandsAt (st .code) (n .end) (getD (set (st .records) r (waiting g)) q free-record)) (wait-is z)
+      (stands (n .end) (n .holds))))
     where
       stands : (e : ℕ) → slotAt g (wt .slot) ≡ some e → StandsAt (st .code) e (getD (set (st .records) r (waiting g)) r free-record)
       stands e q = record {
@@ -250,7 +268,8 @@ module _ (st : State) (s : Sound st) (r : ℕ) (g : Registers) (is : recordAt st
   in-slots : (c : ℕ) → over c ≡ false → c < length (g .slots)
   in-slots c o = omega (arith, leb-false slotCount c o, w .slots-within)
 
-  split-step : (c a b : ℕ) → NoCause (ownCauses g (split c a b)) → NoCause (sharedCauses st g (split c a b)) → FourFree st (new .p) (new .q) (new .s) (new .t)
+  split-step : (c a b : ℕ) → NoCause (ownCauses g (split c a b)) → NoCause (sharedCauses st g (split c a b))
+      → FourFree st (new .p) (new .q) (new .s) (new .t)
       → Move st (after st r (d .next) g new (split c a b)) (instructionEvents g new (split c a b))
   unfolding after ownCauses sharedCauses instructionEvents
   split-step c a b own shared free =
@@ -258,11 +277,14 @@ module _ (st : State) (s : Sound st) (r : ℕ) (g : Registers) (is : recordAt st
       let e-data = subst EndWithin (n .own .was) (s .S1 .ends-within (n .end)) .1 in
       let e-apart = subst (λ (x : EndState). mates (n .end) x ≡ 0) (n .own .was) (mated-of-paired st (s .S2) .apart (n .end)) in
       let slots = splitSlots g c a b (new .p) (new .s) in
-      let total = split-total g c a b (new .p) (new .s) (n .end) (n .holds) (n .in-list) (in-slots a (own .1 .0)) (in-slots b (own .1 .1 .0))
+      let total = split-total g c a b (new .p) (new .s) (n .end) (n .holds) (n .in-list) (in-slots a (own .1 .0))
+      (in-slots b (own .1 .1 .0))
       (eqb-false a b (own .1 .1 .1 .1 .0)) (own .1 .1 .1 .1 .1 .0) (own .1 .1 .1 .1 .1 .1 .0) in
       rw (n .holds, n .own .was)
-      (split-move st s r g is (registers (d .next) (g .stack) (g .environment) slots) (n .end) (n .own .partner) (n .own .queued) (n .own .was)
-      (new .p) (new .q) (new .s) (new .t) free (room c n (shared .0), e-data) e-apart (slots-for slots (length-split g c a b (new .p) (new .s))) total)
+      (split-move st s r g is (registers (d .next) (g .stack) (g .environment) slots) (n .end) (n .own .partner) (n .own .queued)
+      (n .own .was)
+      (new .p) (new .q) (new .s) (new .t) free (room c n (shared .0), e-data) e-apart
+      (slots-for slots (length-split g c a b (new .p) (new .s))) total)
 
   plug-step : (a m place m′ place′ : ℕ) → d .instruction ≡ plug a m place m′ place′ → NoCause (ownCauses g (plug a m place m′ place′))
       → TwoFree st (new .p) (new .q) → FreeRecord st (new .record′)
@@ -285,14 +307,16 @@ module _ (st : State) (s : Sound st) (r : ℕ) (g : Registers) (is : recordAt st
   -- an own queue that is empty
   emptied-end : (c : ℕ) (n : Named c) → queueNotEmpty st c g ≡ false → endAt st (n .end) ≡ used (n .own .partner) [] none
   emptied-end c n h =
-      n .own .was ∙ ap (λ (ds : List Datum). used (n .own .partner) ds none) (go (n .own .queued) (subst (λ (x : EndState). ltb 0 (queueLength x) ≡ false) (n .own .was)
+      n .own .was ∙ ap (λ (ds : List Datum). used (n .own .partner) ds none)
+      (go (n .own .queued) (subst (λ (x : EndState). ltb 0 (queueLength x) ≡ false) (n .own .was)
       (subst (λ (x : Option ℕ). ltb 0 (queueLength (endAt st (endOr endCount x))) ≡ false) (n .holds) h)))
     where
       go : (ds : List Datum) → ltb 0 (length ds) ≡ false → ds ≡ []
       go [] h = refl
       go (x ∷ xs) h = absurd (omega (arith, ltb-false 0 (length (x ∷ xs)) h))
 
-  both-out : (c b : ℕ) (x : Named c) (y : Named b) → c ≢ b → othersThanBothHeld c b g ≡ false → (k : ℕ) → total (inSlot k) (g .slots) ≡ δ (x .end) k + δ (y .end) k
+  both-out : (c b : ℕ) (x : Named c) (y : Named b) → c ≢ b → othersThanBothHeld c b g ≡ false → (k : ℕ) → total (inSlot k) (g .slots)
+      ≡ δ (x .end) k + δ (y .end) k
   both-out c b x y differ h k =
       let b-in : b < length (emptied (g .slots) c) = rw (length-set (g .slots) c none) (y .in-list) in
       let b-is = getD-set-other (g .slots) c b none none (λ (z : b ≡ c). differ (sym z)) ∙ y .holds in
@@ -305,7 +329,8 @@ module _ (st : State) (s : Sound st) (r : ℕ) (g : Registers) (is : recordAt st
         none-held (inSlot k) refl (emptied (emptied (g .slots) c) b) h,
       )
 
-  same-step : (c b : ℕ) → NoCause (ownCauses g (same c b)) → NoCause (sharedCauses st g (same c b)) → Move st (after st r (d .next) g new (same c b)) []
+  same-step : (c b : ℕ) → NoCause (ownCauses g (same c b)) → NoCause (sharedCauses st g (same c b))
+      → Move st (after st r (d .next) g new (same c b)) []
   unfolding after ownCauses sharedCauses placesOf
   same-step c b own shared =
       let x = named-slot c (own .0) (own .1 .1 .0) in
@@ -329,7 +354,8 @@ module _ (st : State) (s : Sound st) (r : ℕ) (g : Registers) (is : recordAt st
       rw (x .holds, y .holds, x-was, y-was, pm .was, pn .was)
       (same-move st s r g is (x .end) (y .end) (x .own .partner) (y .own .partner) x-was y-was differ apart pm pn out)
     where
-      unmated : (c b : ℕ) (x : Named c) (y : Named b) → endAt st (x .end) ≡ used (x .own .partner) [] none → partners st c b g ≡ false → eqb (x .own .partner) (y .end) ≡ false
+      unmated : (c b : ℕ) (x : Named c) (y : Named b) → endAt st (x .end) ≡ used (x .own .partner) [] none → partners st c b g ≡ false
+          → eqb (x .own .partner) (y .end) ≡ false
       unmated c b x y was h =
           subst (λ (z : EndState). names (partnerOf z) (y .end) ≡ false) was
           (subst (λ (z : Option ℕ). names (partnerOf (endAt st (endOr endCount z))) (y .end) ≡ false) (x .holds)
@@ -337,7 +363,8 @@ module _ (st : State) (s : Sound st) (r : ℕ) (g : Registers) (is : recordAt st
 
   -- ---- every instruction
 
-  pub instruction-move : (i : Instruction) → d .instruction ≡ i → NoCause (ownCauses g i) → NoCause (sharedCauses st g i) → FreshFor st new i
+  pub instruction-move : (i : Instruction) → d .instruction ≡ i → NoCause (ownCauses g i) → NoCause (sharedCauses st g i)
+      → FreshFor st new i
       → Move st (after st r (d .next) g new i) (instructionEvents g new i)
   unfolding after instructionEvents ownCauses sharedCauses
   instruction-move (cst v) q own shared free = cst-step v q own
@@ -348,11 +375,13 @@ module _ (st : State) (s : Sound st) (r : ℕ) (g : Registers) (is : recordAt st
   instruction-move leq q own shared free = leq-step own
   instruction-move (put c) q own shared free = put-step c own shared
   instruction-move (get c) q own shared free =
-      wait-step (record { slot = c; wanted = a-value (d .next) }) (ap (λ (i : Instruction). waitOf i (d .next)) q) (own .1 .0) (own .1 .1 .0)
+      wait-step (record { slot = c; wanted = a-value (d .next) }) (ap (λ (i : Instruction). waitOf i (d .next)) q) (own .1 .0)
+      (own .1 .1 .0)
       (subst (λ (i : Instruction). NoCause (ownCauses g i)) (sym q) own) (shared .0)
   instruction-move (split c a b) q own shared free = split-step c a b own shared free
   instruction-move (fork c a m place b m′ place′) q own shared free =
-      wait-step (record { slot = c; wanted = a-split a m place b m′ place′ }) (ap (λ (i : Instruction). waitOf i (d .next)) q) (own .0) (own .1 .1 .1 .0)
+      wait-step (record { slot = c; wanted = a-split a m place b m′ place′ }) (ap (λ (i : Instruction). waitOf i (d .next)) q) (own .0)
+      (own .1 .1 .1 .0)
       (subst (λ (i : Instruction). NoCause (ownCauses g i)) (sym q) own) (shared .0)
   instruction-move (plug a m place m′ place′) q own shared free = plug-step a m place m′ place′ q own (free .0) (free .1)
   instruction-move (close c) q own shared free = close-step c own shared

@@ -29,7 +29,8 @@ use Rattle.keeping.proofs.LayoutLaws.{length-value, length-record, leng
 -- ---- lists
 
 -- what is written and read back, element by element
-map-back : {A B : Type 0} (f : A → B) (g : B → A) (d : A) (xs : List A) → ((i : ℕ) → g (f (getD xs i d)) ≡ getD xs i d) → map g (map f xs) ≡ xs
+map-back : {A B : Type 0} (f : A → B) (g : B → A) (d : A) (xs : List A) → ((i : ℕ) → g (f (getD xs i d)) ≡ getD xs i d) → map g (map f xs)
+    ≡ xs
 map-back f g d [] h = refl
 map-back f g d (x ∷ xs) h = λ i. h 0 i ∷ map-back f g d xs (λ j. h (suc j)) i
 
@@ -47,7 +48,8 @@ unfolding viewValue valueBytes
 value-back v h =
     let fits : SFits w32 v = record { sfits = h } in
     let bits : ofZ w32 v < 256 ^ valueSize = fits-ofZ {w = w32} {z = v} fits .fits in
-    ap (toZ w32) (ap (λ (l : List ℕ). numberAt valueSize l 0) (sym (append-nil (bytesOf valueSize (ofZ w32 v)))) ∙ number-bytes valueSize (ofZ w32 v) [] bits)
+    ap (toZ w32) (ap (λ (l : List ℕ). numberAt valueSize l 0) (sym (append-nil (bytesOf valueSize (ofZ w32 v))))
+    ∙ number-bytes valueSize (ofZ w32 v) [] bits)
     ∙ toZ-ofZ {w = w32} {z = v} fits
 
 values-back : (n : ℕ) (l : List Value) (t : List ℕ) → length l ≤ n → ((i : ℕ) → ValueWithin (getD l i (pos 0)))
@@ -57,7 +59,8 @@ values-back n l t h w =
     let padded = pad n (pos 0) l in
     let all = pad-all ValueWithin n (pos 0) l (omega arith) w in
     let cut : pieces n valueSize (flat valueBytes padded ++ t) ≡ map valueBytes padded =
-    subst (λ (k : ℕ). pieces k valueSize (flat valueBytes padded ++ t) ≡ map valueBytes padded) (length-pad n (pos 0) l) (pieces-flat valueBytes valueSize length-value padded t) in
+    subst (λ (k : ℕ). pieces k valueSize (flat valueBytes padded ++ t) ≡ map valueBytes padded) (length-pad n (pos 0) l)
+    (pieces-flat valueBytes valueSize length-value padded t) in
     ap (λ (ps : List (List ℕ)). take (length l) (map viewValue ps)) cut
     ∙ ap (take (length l)) (map-back valueBytes viewValue (pos 0) padded (λ i. value-back (getD padded i (pos 0)) (all i)))
     ∙ take-padded n (pos 0) l h
@@ -69,7 +72,8 @@ unfolding viewOptional
 slot-back none = refl
 slot-back (some e) = refl
 
-slots-back : (l : Slots) (t : List ℕ) → length l ≡ slotCount → map viewOptional (take slotCount (map optional (pad slotCount none l) ++ t)) ≡ l
+slots-back : (l : Slots) (t : List ℕ) → length l ≡ slotCount
+    → map viewOptional (take slotCount (map optional (pad slotCount none l) ++ t)) ≡ l
 slots-back l t h =
     let padded = pad slotCount none l in
     ap (map viewOptional) (take-at (map optional padded) t slotCount (length-map padded optional ∙ length-pad slotCount none l))
@@ -81,18 +85,24 @@ registers-back status g w =
     let slots = map optional (pad slotCount none (g .slots)) in
     let stack = flat valueBytes (pad stackDepth (pos 0) (g .stack)) in
     let environment = flat valueBytes (pad environmentDepth (pos 0) (g .environment)) in
-    let slots-long : length slots ≡ slotCount = length-map (pad slotCount none (g .slots)) optional ∙ length-pad slotCount none (g .slots) in
-    let stack-long : length stack ≡ valueSize * stackDepth = length-flat valueBytes valueSize length-value (pad stackDepth (pos 0) (g .stack)) ∙ ap (λ (k : ℕ). valueSize * k) (length-pad stackDepth (pos 0) (g .stack)) in
+    let slots-long : length slots ≡ slotCount = length-map (pad slotCount none (g .slots)) optional
+    ∙ length-pad slotCount none (g .slots) in
+    let stack-long : length stack ≡ valueSize * stackDepth = length-flat valueBytes valueSize length-value
+    (pad stackDepth (pos 0) (g .stack)) ∙ ap (λ (k : ℕ). valueSize * k) (length-pad stackDepth (pos 0) (g .stack)) in
     let rest : List ℕ = slots ++ (stack ++ environment) in
     let head : List ℕ = length (g .stack) ∷ length (g .environment) ∷ rest in
-    let p : numberAt 2 (status ∷ (bytesOf 2 (g .place) ++ head)) 1 ≡ g .place = number-skip 2 (status ∷ []) (bytesOf 2 (g .place) ++ head) 0 ∙ number-bytes 2 (g .place) head (w .place-within) in
+    let p : numberAt 2 (status ∷ (bytesOf 2 (g .place) ++ head)) 1 ≡ g .place = number-skip 2 (status ∷ [])
+    (bytesOf 2 (g .place) ++ head) 0 ∙ number-bytes 2 (g .place) head (w .place-within) in
     let q : viewValues stackDepth (length (g .stack)) (drop slotCount rest) ≡ g .stack =
-    ap (viewValues stackDepth (length (g .stack))) (drop-at slots (stack ++ environment) slotCount slots-long) ∙ values-back stackDepth (g .stack) environment (w .stack-within) (w .stack-values) in
+    ap (viewValues stackDepth (length (g .stack))) (drop-at slots (stack ++ environment) slotCount slots-long)
+    ∙ values-back stackDepth (g .stack) environment (w .stack-within) (w .stack-values) in
     let behind : drop (slotCount + valueSize * stackDepth) rest ≡ environment ++ [] =
-    sym (drop-drop (valueSize * stackDepth) slotCount rest) ∙ ap (drop (valueSize * stackDepth)) (drop-at slots (stack ++ environment) slotCount slots-long)
+    sym (drop-drop (valueSize * stackDepth) slotCount rest)
+    ∙ ap (drop (valueSize * stackDepth)) (drop-at slots (stack ++ environment) slotCount slots-long)
     ∙ drop-at stack environment (valueSize * stackDepth) stack-long ∙ sym (append-nil environment) in
     let r : viewValues environmentDepth (length (g .environment)) (drop (slotCount + valueSize * stackDepth) rest) ≡ g .environment =
-    ap (viewValues environmentDepth (length (g .environment))) behind ∙ values-back environmentDepth (g .environment) [] (w .environment-within) (w .environment-values) in
+    ap (viewValues environmentDepth (length (g .environment))) behind
+    ∙ values-back environmentDepth (g .environment) [] (w .environment-within) (w .environment-values) in
     let s : map viewOptional (take slotCount rest) ≡ g .slots = slots-back (g .slots) (stack ++ environment) (w .slots-within) in
     λ i. registers (p i) (q i) (r i) (s i)
 
@@ -106,7 +116,8 @@ records-back : (l : List RecordState) (t : List ℕ) → length l ≡ recordCoun
     → map viewRecord (pieces recordCount recordSize (flat recordBytes l ++ t)) ≡ l
 records-back l t h w =
     ap (λ (ps : List (List ℕ)). map viewRecord ps)
-    (subst (λ (k : ℕ). pieces k recordSize (flat recordBytes l ++ t) ≡ map recordBytes l) h (pieces-flat recordBytes recordSize length-record l t))
+    (subst (λ (k : ℕ). pieces k recordSize (flat recordBytes l ++ t) ≡ map recordBytes l) h
+    (pieces-flat recordBytes recordSize length-record l t))
     ∙ map-back recordBytes viewRecord free-record l (λ i. record-back (getD l i free-record) (w i))
 
 -- ---- queues
@@ -133,12 +144,14 @@ last-back (some (split-item p q)) h =
 last-back (some close-item) h = refl
 last-back (some (wait-item r)) h = rw (kind-is 5 r (omega arith), payload-is 5 r (omega arith))
 
-cells-back : (ds : List Datum) (l : Option Last) → ((i : ℕ) → DatumWithin (getD ds i (handle 0))) → LastFits l → viewCells (map datumCell ds ++ lastCells l) ≡ queue ds l
+cells-back : (ds : List Datum) (l : Option Last) → ((i : ℕ) → DatumWithin (getD ds i (handle 0))) → LastFits l
+    → viewCells (map datumCell ds ++ lastCells l) ≡ queue ds l
 unfolding viewCells viewCell datumCell
 cells-back [] l w h = last-back l h
 cells-back (value v ∷ ds) l w h =
     let fits : SFits w32 v = record { sfits = w 0 } in
-    rw (kind-is 1 (ofZ w32 v) (omega arith), payload-is 1 (ofZ w32 v) (omega arith), toZ-ofZ {w = w32} {z = v} fits) (ap (inFront (value v)) (cells-back ds l (λ i. w (suc i)) h))
+    rw (kind-is 1 (ofZ w32 v) (omega arith), payload-is 1 (ofZ w32 v) (omega arith), toZ-ofZ {w = w32} {z = v} fits)
+    (ap (inFront (value v)) (cells-back ds l (λ i. w (suc i)) h))
 cells-back (handle n ∷ ds) l w h =
     rw (kind-is 2 n (omega arith), payload-is 2 n (omega arith)) (ap (inFront (handle n)) (cells-back ds l (λ i. w (suc i)) h))
 
@@ -147,7 +160,8 @@ unfolding datumCell
 datum-fits (value v) h = let bits : ofZ w32 v < 4294967296 = fits-ofZ {w = w32} {z = v} (record { sfits = h }) .fits in omega arith
 datum-fits (handle n) h = omega arith
 
-cells-fit : (ds : List Datum) (l : Option Last) → ((i : ℕ) → DatumWithin (getD ds i (handle 0))) → LastFits l → (i : ℕ) → getD (map datumCell ds ++ lastCells l) i 0 < 256 ^ cellSize
+cells-fit : (ds : List Datum) (l : Option Last) → ((i : ℕ) → DatumWithin (getD ds i (handle 0))) → LastFits l → (i : ℕ)
+    → getD (map datumCell ds ++ lastCells l) i 0 < 256 ^ cellSize
 unfolding lastCells lastCell
 cells-fit [] none w h i = omega arith
 cells-fit [] (some (split-item p q)) w h zero = omega (arith, h .0, h .1)
@@ -167,7 +181,8 @@ length-cells m ds (some l) = omega (arith, length-append (map datumCell ds) (las
 cell-back : (n : ℕ) → n < 256 ^ cellSize → numberAt cellSize (bytesOf cellSize n) 0 ≡ n
 cell-back n h = ap (λ (l : List ℕ). numberAt cellSize l 0) (sym (append-nil (bytesOf cellSize n))) ∙ number-bytes cellSize n [] h
 
-queue-back : (m : ℕ) (ds : List Datum) (l : Option Last) → EndWithin (used m ds l) → LastFits l → viewQueue (queueLength (used m ds l)) (queueBytes (used m ds l)) ≡ queue ds l
+queue-back : (m : ℕ) (ds : List Datum) (l : Option Last) → EndWithin (used m ds l) → LastFits l
+    → viewQueue (queueLength (used m ds l)) (queueBytes (used m ds l)) ≡ queue ds l
 unfolding viewQueue queueBytes queueCells
 queue-back m ds l w h =
     let cells = map datumCell ds ++ lastCells l in
@@ -175,7 +190,8 @@ queue-back m ds l w h =
     let fit = pad-all (λ (n : ℕ). n < 256 ^ cellSize) queueDepth 0 cells (omega arith) (cells-fit ds l (w .1) h) in
     let cut : pieces queueDepth cellSize (flat (bytesOf cellSize) padded) ≡ map (bytesOf cellSize) padded =
     ap (pieces queueDepth cellSize) (sym (append-nil (flat (bytesOf cellSize) padded)))
-    ∙ subst (λ (k : ℕ). pieces k cellSize (flat (bytesOf cellSize) padded ++ []) ≡ map (bytesOf cellSize) padded) (length-pad queueDepth 0 cells)
+    ∙ subst (λ (k : ℕ). pieces k cellSize (flat (bytesOf cellSize) padded ++ []) ≡ map (bytesOf cellSize) padded)
+    (length-pad queueDepth 0 cells)
     (pieces-flat (bytesOf cellSize) cellSize (length-bytes cellSize) padded []) in
     let long = length-cells m ds l in
     ap (λ (ps : List (List ℕ)). viewCells (take (queueLength (used m ds l)) (map (λ (cell : List ℕ). numberAt cellSize cell 0) ps))) cut
@@ -209,14 +225,22 @@ unfolding viewEnd partnerByte
 end-back free-end w h = refl
 end-back (used m ds l) w h = ap (λ (q : Queue). used m (q .queued) (q .final)) (queue-back m ds l w h)
 
-ends-back : (l : List EndState) (t u v : List ℕ) → ((e : ℕ) → EndWithin (getD l e free-end)) → ((e : ℕ) → LastFits (lastOf (getD l e free-end)))
+ends-back : (l : List EndState) (t u v : List ℕ) → ((e : ℕ) → EndWithin (getD l e free-end))
+    → ((e : ℕ) → LastFits (lastOf (getD l e free-end)))
     → viewEnds (length l) (freeWord l) (map partnerByte l ++ t) (map queueLength l ++ u) (flat queueBytes l ++ v) ≡ l
 unfolding viewEnds flat
 ends-back [] t u v w h = refl
 ends-back (x ∷ xs) t u v w h =
     let bit = free-bit x xs in
     let behind = flat queueBytes xs ++ v in
-    rw (bit .0, bit .1, append-assoc (queueBytes x) (flat queueBytes xs) v, take-at (queueBytes x) behind queueSize (length-queue x), drop-at (queueBytes x) behind queueSize (length-queue x))
+    rw (
+      bit .0,
+      bit .1,
+      append-assoc (queueBytes x) (flat queueBytes xs) v,
+      take-at (queueBytes x) behind queueSize
+          (length-queue x),
+      drop-at (queueBytes x) behind queueSize (length-queue x),
+    )
     (λ i. end-back x (w 0) (h 0) i ∷ ends-back xs t u v (λ e. w (suc e)) (λ e. h (suc e)) i)
 
 -- ---- the memory
@@ -269,13 +293,15 @@ module _ (st : State) (w : Within st) (fits : (e : ℕ) → LastFits (lastOf (en
   unfolding behindPartners
   drop-counts =
       sym (drop-drop endCount countsAt (layout st)) ∙ ap (drop endCount) drop-partners
-      ∙ drop-at (map queueLength (st .ends)) behindCounts endCount (length-map (st .ends) queueLength ∙ w .end-count) ∙ sym (append-nil behindCounts)
+      ∙ drop-at (map queueLength (st .ends)) behindCounts endCount (length-map (st .ends) queueLength ∙ w .end-count)
+      ∙ sym (append-nil behindCounts)
 
   code-back : take (numberAt 2 (layout st) 0) (drop 2 (layout st)) ≡ st .code
   code-back =
       let padded = pad codeLimit 0 (st .code) in
       let long : numberAt 2 (layout st) 0 ≡ length (st .code) =
-      ap (λ (m : List ℕ). numberAt 2 m 0) sections ∙ number-bytes 2 (length (st .code)) (padded ++ behindCode) (omega (arith, w .code-within)) in
+      ap (λ (m : List ℕ). numberAt 2 m 0) sections
+      ∙ number-bytes 2 (length (st .code)) (padded ++ behindCode) (omega (arith, w .code-within)) in
       ap (λ (k : ℕ). take k (drop 2 (layout st))) long ∙ ap (λ (m : List ℕ). take (length (st .code)) (drop 2 m)) sections
       ∙ take-append-le (length (st .code)) padded behindCode (omega (arith, length-pad codeLimit 0 (st .code), w .code-within))
       ∙ take-padded codeLimit 0 (st .code) (w .code-within)
@@ -290,9 +316,11 @@ module _ (st : State) (w : Within st) (fits : (e : ℕ) → LastFits (lastOf (en
   unfolding behindRecords
   word-read =
       ap (λ (m : List ℕ). numberAt freeSize m 0) drop-records
-      ∙ number-bytes freeSize (freeWord (st .ends)) behindFree (subst (λ (k : ℕ). freeWord (st .ends) < 2 ^ k) (w .end-count) (free-word-fits (st .ends)))
+      ∙ number-bytes freeSize (freeWord (st .ends)) behindFree
+      (subst (λ (k : ℕ). freeWord (st .ends) < 2 ^ k) (w .end-count) (free-word-fits (st .ends)))
 
-  ends-read : viewEnds endCount (numberAt freeSize (drop freeAt (layout st)) 0) (drop partnersAt (layout st)) (drop countsAt (layout st)) (drop queuesAt (layout st)) ≡ st .ends
+  ends-read : viewEnds endCount (numberAt freeSize (drop freeAt (layout st)) 0) (drop partnersAt (layout st)) (drop countsAt (layout st))
+      (drop queuesAt (layout st)) ≡ st .ends
   unfolding behindFree behindPartners behindCounts
   ends-read =
       (λ i. viewEnds endCount (word-read i) (drop-free i) (drop-partners i) (drop-counts i))

@@ -1,7 +1,7 @@
--- Demand 3 of the order, on bytes: from any image that loads, through any list of asks and runs, refused ones too, every state is sound; for
--- each end in use what was put, in order, is what was taken, in order, followed by what is queued; no end goes out of use with a value or
--- handle queued. The calls are the very functions that the public contracts name (`rules`, Calls). `proofs/Demand3` proves it as `demand-3`.
--- It does not say how long a call takes. Assumes nothing.
+-- Demand 3 of the order, on bytes: from any image that loads, through any list of asks and runs, refused ones too, every state is
+-- sound; for each end in use what was put, in order, is what was taken, in order, followed by what is queued; no end goes out of use
+-- with a value or handle queued. The calls are the very functions that the public contracts name (`rules`, Calls). `proofs/Demand3`
+-- proves it as `demand-3`. It does not say how long a call takes. Assumes nothing.
 use mathlib.Core.Path.{_≡_}
 use mathlib.Core.List.{List, [], _∷_, _++_}
 use Prim.Native.Nat.{ℕ}

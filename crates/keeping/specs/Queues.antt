@@ -1,5 +1,5 @@
--- What demand 3 of document 01 says, as statements: an event of a step is exactly a change of that queue by the step (`QueueChange`), and the
--- history of an end agrees with its queue (`Agrees`). Assumes nothing.
+-- What demand 3 of document 01 says, as statements: an event of a step is exactly a change of that queue by the step (`QueueChange`),
+-- and the history of an end agrees with its queue (`Agrees`). Assumes nothing.
 use mathlib.Core.Path.{_≡_}
 use mathlib.Core.Bool.{Bool, true, false}
 use mathlib.Core.List.{List, [], _∷_, _++_}

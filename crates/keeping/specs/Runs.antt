@@ -1,5 +1,5 @@
--- What document 01 says of a run, as statements: its steps are each the first position that can step, searching upward and around from where
--- the one before left (`IsRun`); its verdict (`VerdictIs`); and fairness (`TakenWithin`). Assumes nothing.
+-- What document 01 says of a run, as statements: its steps are each the first position that can step, searching upward and around from
+-- where the one before left (`IsRun`); its verdict (`VerdictIs`); and fairness (`TakenWithin`). Assumes nothing.
 use mathlib.Core.Path.{_≡_}
 use mathlib.Core.Logic.{_≢_}
 use mathlib.Core.Bool.{Bool, true, false}

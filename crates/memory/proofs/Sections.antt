@@ -1,5 +1,5 @@
--- The sections of the state memory: the layout of a state is its sections (`layout-is`), and for each section one law that replaces a piece of it
--- and one that reads a piece of it. Writing asks only for lengths. Assumes nothing.
+-- The sections of the state memory: the layout of a state is its sections (`layout-is`), and for each section one law that replaces a
+-- piece of it and one that reads a piece of it. Writing asks only for lengths. Assumes nothing.
 use mathlib.Core.Path.{_≡_, refl, sym, ap, _∙_, subst}
 use mathlib.Core.List.{List, [], _∷_, _++_, map, append-nil, append-assoc}
 use Prim.Native.Nat.{ℕ, zero, suc, _+_, _*_, _^_, _≤_, _<_}
@@ -29,11 +29,14 @@ queues-are : (xs : List EndState) → flat queueBytes xs ≡ flat (bytesOf cellS
 unfolding allCells queueBytes cellsOf
 queues-are xs = flat-flat (λ (x : EndState). pad queueDepth 0 (queueCells x)) (bytesOf cellSize) xs
 
-pub layout-is : (st : State) → layout st ≡ sectioned (st .code) (st .records) (freeWord (st .ends)) (partnersOf (st .ends)) (countsOf (st .ends)) (allCells (st .ends))
+pub layout-is : (st : State) → layout st ≡ sectioned (st .code) (st .records) (freeWord (st .ends)) (partnersOf (st .ends))
+    (countsOf (st .ends)) (allCells (st .ends))
 unfolding layout sectioned partnersOf countsOf
 layout-is st =
     ap
-    (λ (q : List ℕ). bytesOf 2 (length (st .code)) ++ (pad codeLimit 0 (st .code) ++ (flat recordBytes (st .records) ++ (bytesOf freeSize (freeWord (st .ends)) ++ (map partnerByte (st .ends) ++ (map queueLength (st .ends) ++ q))))))
+    (λ (q : List ℕ). bytesOf 2 (length (st .code))
+    ++ (pad codeLimit 0 (st .code) ++ (flat recordBytes
+    (st .records) ++ (bytesOf freeSize (freeWord (st .ends)) ++ (map partnerByte (st .ends) ++ (map queueLength (st .ends) ++ q))))))
     (queues-are (st .ends))
 
 -- ---- past a part of known length
@@ -84,7 +87,8 @@ put-code code m o bytes =
     let e : recordsAt + o ≡ 2 + (codeLimit + o) = omega arith in
     ap (λ (k : ℕ). putAt (withCode code m) k bytes) e
     ∙ put-behind (bytesOf 2 (length code)) (pad codeLimit 0 code ++ m) 2 (codeLimit + o) bytes refl
-    ∙ ap (λ (r : List ℕ). bytesOf 2 (length code) ++ r) (put-behind (pad codeLimit 0 code) m codeLimit o bytes (length-pad codeLimit 0 code))
+    ∙ ap (λ (r : List ℕ). bytesOf 2 (length code) ++ r)
+    (put-behind (pad codeLimit 0 code) m codeLimit o bytes (length-pad codeLimit 0 code))
 
 number-code : (k : ℕ) (code m : List ℕ) (o : ℕ) → numberAt k (withCode code m) (recordsAt + o) ≡ numberAt k m o
 number-code k code m o =
@@ -113,7 +117,8 @@ module _ (code : List ℕ) (records : List RecordState) (word : ℕ) (partners c
       ∙ put-code code (flat recordBytes records ++ rest) (recordSize * recordCount + o) bytes
       ∙ ap (withCode code) (put-behind (flat recordBytes records) rest (recordSize * recordCount) o bytes records-long)
 
-  number-past-records : (k o : ℕ) → numberAt k (sectioned code records word partners counts cells) (freeAt + o) ≡ numberAt k (behindRecords code records word partners counts cells) o
+  number-past-records : (k o : ℕ) → numberAt k (sectioned code records word partners counts cells) (freeAt + o)
+      ≡ numberAt k (behindRecords code records word partners counts cells) o
   unfolding behindCode
   number-past-records k o =
       let e : freeAt + o ≡ recordsAt + (recordSize * recordCount + o) = omega arith in
@@ -133,7 +138,8 @@ module _ (code : List ℕ) (records : List RecordState) (word : ℕ) (partners c
   put-record i x h =
       let rest = behindRecords code records word partners counts cells in
       let last : recordSize * i + recordSize ≤ recordSize * recordCount = omega arith in
-      let inside : recordSize * i + length (recordBytes x) ≤ length (flat recordBytes records) = omega (arith, length-record x, records-long, last) in
+      let inside : recordSize * i + length (recordBytes x) ≤ length (flat recordBytes records) = omega
+      (arith, length-record x, records-long, last) in
       ap (λ (m : List ℕ). putAt m (recordsAt + recordSize * i) (recordBytes x)) (sections code records word partners counts cells)
       ∙ put-code code (flat recordBytes records ++ rest) (recordSize * i) (recordBytes x)
       ∙ ap (withCode code) (put-in (flat recordBytes records) rest (recordSize * i) (recordBytes x) inside
@@ -142,7 +148,8 @@ module _ (code : List ℕ) (records : List RecordState) (word : ℕ) (partners c
 
   -- a number within record i is read
   pub number-record : (k i o : ℕ) → i < recordCount → o + k ≤ recordSize
-      → numberAt k (sectioned code records word partners counts cells) (recordsAt + recordSize * i + o) ≡ numberAt k (recordBytes (getD records i free-record)) o
+      → numberAt k (sectioned code records word partners counts cells) (recordsAt + recordSize * i + o)
+      ≡ numberAt k (recordBytes (getD records i free-record)) o
   unfolding behindCode
   number-record k i o h l =
       let rest = behindRecords code records word partners counts cells in
@@ -156,12 +163,14 @@ module _ (code : List ℕ) (records : List RecordState) (word : ℕ) (partners c
   -- ---- the word of free ends
 
   pub put-word : (w : ℕ)
-      → putAt (sectioned code records word partners counts cells) freeAt (bytesOf freeSize w) ≡ sectioned code records w partners counts cells
+      → putAt (sectioned code records word partners counts cells) freeAt (bytesOf freeSize w)
+      ≡ sectioned code records w partners counts cells
   unfolding behindRecords behindWord behindPartners behindCode
   put-word w =
       put-past-records 0 (bytesOf freeSize w)
       ∙ ap (λ (r : List ℕ). withCode code (flat recordBytes records ++ r))
-      (put-whole (bytesOf freeSize word) (behindWord code records word partners counts cells) (bytesOf freeSize w) (length-bytes freeSize w ∙ sym (length-bytes freeSize word)))
+      (put-whole (bytesOf freeSize word) (behindWord code records word partners counts cells) (bytesOf freeSize w)
+      (length-bytes freeSize w ∙ sym (length-bytes freeSize word)))
       ∙ sym (sections code records w partners counts cells)
 
   pub number-word : word < 256 ^ freeSize → numberAt freeSize (sectioned code records word partners counts cells) freeAt ≡ word
@@ -172,15 +181,18 @@ module _ (code : List ℕ) (records : List RecordState) (word : ℕ) (partners c
 
   put-past-word : (o : ℕ) (bytes : List ℕ)
       → putAt (sectioned code records word partners counts cells) (partnersAt + o) bytes
-      ≡ withCode code (flat recordBytes records ++ (bytesOf freeSize word ++ putAt (behindWord code records word partners counts cells) o bytes))
+      ≡ withCode code (flat recordBytes records
+      ++ (bytesOf freeSize word ++ putAt (behindWord code records word partners counts cells) o bytes))
   unfolding behindRecords
   put-past-word o bytes =
       let e : partnersAt + o ≡ freeAt + (freeSize + o) = omega arith in
       ap (λ (k : ℕ). putAt (sectioned code records word partners counts cells) k bytes) e ∙ put-past-records (freeSize + o) bytes
       ∙ ap (λ (r : List ℕ). withCode code (flat recordBytes records ++ r))
-      (put-behind (bytesOf freeSize word) (behindWord code records word partners counts cells) freeSize o bytes (length-bytes freeSize word))
+      (put-behind (bytesOf freeSize word) (behindWord code records word partners counts cells) freeSize o bytes
+      (length-bytes freeSize word))
 
-  number-past-word : (k o : ℕ) → numberAt k (sectioned code records word partners counts cells) (partnersAt + o) ≡ numberAt k (behindWord code records word partners counts cells) o
+  number-past-word : (k o : ℕ) → numberAt k (sectioned code records word partners counts cells) (partnersAt + o)
+      ≡ numberAt k (behindWord code records word partners counts cells) o
   unfolding behindRecords
   number-past-word k o =
       let e : partnersAt + o ≡ freeAt + (freeSize + o) = omega arith in
@@ -188,7 +200,8 @@ module _ (code : List ℕ) (records : List RecordState) (word : ℕ) (partners c
       ∙ number-behind k (bytesOf freeSize word) (behindWord code records word partners counts cells) freeSize o (length-bytes freeSize word)
 
   pub put-partner : (e b : ℕ) → e < endCount
-      → putAt (sectioned code records word partners counts cells) (partnersAt + e) (b ∷ []) ≡ sectioned code records word (set partners e b) counts cells
+      → putAt (sectioned code records word partners counts cells) (partnersAt + e) (b ∷ [])
+      ≡ sectioned code records word (set partners e b) counts cells
   unfolding behindWord behindRecords behindCode behindPartners
   put-partner e b h =
       put-past-word e (b ∷ [])
@@ -196,15 +209,18 @@ module _ (code : List ℕ) (records : List RecordState) (word : ℕ) (partners c
       (put-one partners (behindPartners code records word partners counts cells) e b (omega (arith, np)))
       ∙ sym (sections code records word (set partners e b) counts cells)
 
-  pub read-partner : (e : ℕ) → e < endCount → getD (sectioned code records word partners counts cells) (partnersAt + e) 0 ≡ getD partners e 0
+  pub read-partner : (e : ℕ) → e < endCount → getD (sectioned code records word partners counts cells) (partnersAt + e) 0
+      ≡ getD partners e 0
   unfolding behindWord
   read-partner e h =
-      byte-is (sectioned code records word partners counts cells) (partnersAt + e) (behindWord code records word partners counts cells) e (number-past-word 1 e)
+      byte-is (sectioned code records word partners counts cells) (partnersAt + e) (behindWord code records word partners counts cells) e
+      (number-past-word 1 e)
       ∙ List·getD-append partners (behindPartners code records word partners counts cells) 0 e (omega (arith, np))
 
   put-past-partners : (o : ℕ) (bytes : List ℕ)
       → putAt (sectioned code records word partners counts cells) (countsAt + o) bytes
-      ≡ withCode code (flat recordBytes records ++ (bytesOf freeSize word ++ (partners ++ putAt (behindPartners code records word partners counts cells) o bytes)))
+      ≡ withCode code (flat recordBytes records
+      ++ (bytesOf freeSize word ++ (partners ++ putAt (behindPartners code records word partners counts cells) o bytes)))
   unfolding behindWord
   put-past-partners o bytes =
       let e : countsAt + o ≡ partnersAt + (endCount + o) = omega arith in
@@ -212,7 +228,8 @@ module _ (code : List ℕ) (records : List RecordState) (word : ℕ) (partners c
       ∙ ap (λ (r : List ℕ). withCode code (flat recordBytes records ++ (bytesOf freeSize word ++ r)))
       (put-behind partners (behindPartners code records word partners counts cells) endCount o bytes np)
 
-  number-past-partners : (k o : ℕ) → numberAt k (sectioned code records word partners counts cells) (countsAt + o) ≡ numberAt k (behindPartners code records word partners counts cells) o
+  number-past-partners : (k o : ℕ) → numberAt k (sectioned code records word partners counts cells) (countsAt + o)
+      ≡ numberAt k (behindPartners code records word partners counts cells) o
   unfolding behindWord
   number-past-partners k o =
       let e : countsAt + o ≡ partnersAt + (endCount + o) = omega arith in
@@ -220,7 +237,8 @@ module _ (code : List ℕ) (records : List RecordState) (word : ℕ) (partners c
       ∙ number-behind k partners (behindPartners code records word partners counts cells) endCount o np
 
   pub put-count : (e b : ℕ) → e < endCount
-      → putAt (sectioned code records word partners counts cells) (countsAt + e) (b ∷ []) ≡ sectioned code records word partners (set counts e b) cells
+      → putAt (sectioned code records word partners counts cells) (countsAt + e) (b ∷ [])
+      ≡ sectioned code records word partners (set counts e b) cells
   unfolding behindPartners behindWord behindRecords behindCode
   put-count e b h =
       put-past-partners e (b ∷ [])
@@ -231,14 +249,16 @@ module _ (code : List ℕ) (records : List RecordState) (word : ℕ) (partners c
   pub read-count : (e : ℕ) → e < endCount → getD (sectioned code records word partners counts cells) (countsAt + e) 0 ≡ getD counts e 0
   unfolding behindPartners
   read-count e h =
-      byte-is (sectioned code records word partners counts cells) (countsAt + e) (behindPartners code records word partners counts cells) e (number-past-partners 1 e)
+      byte-is (sectioned code records word partners counts cells) (countsAt + e)
+      (behindPartners code records word partners counts cells) e (number-past-partners 1 e)
       ∙ List·getD-append counts (flat (bytesOf cellSize) cells) 0 e (omega (arith, nc))
 
   -- ---- cells
 
   put-past-counts : (o : ℕ) (bytes : List ℕ)
       → putAt (sectioned code records word partners counts cells) (queuesAt + o) bytes
-      ≡ withCode code (flat recordBytes records ++ (bytesOf freeSize word ++ (partners ++ (counts ++ putAt (flat (bytesOf cellSize) cells) o bytes))))
+      ≡ withCode code (flat recordBytes records
+      ++ (bytesOf freeSize word ++ (partners ++ (counts ++ putAt (flat (bytesOf cellSize) cells) o bytes))))
   unfolding behindPartners
   put-past-counts o bytes =
       let e : queuesAt + o ≡ countsAt + (endCount + o) = omega arith in
@@ -246,7 +266,8 @@ module _ (code : List ℕ) (records : List RecordState) (word : ℕ) (partners c
       ∙ ap (λ (r : List ℕ). withCode code (flat recordBytes records ++ (bytesOf freeSize word ++ (partners ++ r))))
       (put-behind counts (flat (bytesOf cellSize) cells) endCount o bytes nc)
 
-  number-past-counts : (k o : ℕ) → numberAt k (sectioned code records word partners counts cells) (queuesAt + o) ≡ numberAt k (flat (bytesOf cellSize) cells) o
+  number-past-counts : (k o : ℕ) → numberAt k (sectioned code records word partners counts cells) (queuesAt + o)
+      ≡ numberAt k (flat (bytesOf cellSize) cells) o
   unfolding behindPartners
   number-past-counts k o =
       let e : queuesAt + o ≡ countsAt + (endCount + o) = omega arith in
@@ -273,11 +294,14 @@ module _ (code : List ℕ) (records : List RecordState) (word : ℕ) (partners c
       ∙ ap (λ (j : ℕ). numberAt cellSize all j) (omega arith)
       ∙ number-in cellSize all (cellSize * k) cellSize 0 (omega arith)
       ∙ ap (λ (r : List ℕ). numberAt cellSize r 0)
-      (ap (λ (r : List ℕ). take cellSize (drop (cellSize * k) r)) (sym (append-nil all)) ∙ cut-flat (bytesOf cellSize) cellSize (length-bytes cellSize) cells k 0 [] h ∙ sym (append-nil (bytesOf cellSize (getD cells k 0))))
+      (ap (λ (r : List ℕ). take cellSize (drop (cellSize * k) r)) (sym (append-nil all))
+      ∙ cut-flat (bytesOf cellSize) cellSize (length-bytes cellSize) cells k 0 [] h
+      ∙ sym (append-nil (bytesOf cellSize (getD cells k 0))))
       ∙ number-bytes cellSize (getD cells k 0) [] l
 
 -- several cells from k on are replaced
-pub put-cells : (code : List ℕ) (records : List RecordState) (word : ℕ) (partners counts : List ℕ) → length records ≡ recordCount → length partners ≡ endCount
+pub put-cells : (code : List ℕ) (records : List RecordState) (word : ℕ) (partners counts : List ℕ) → length records ≡ recordCount
+    → length partners ≡ endCount
     → length counts ≡ endCount → (cells : List ℕ) (k : ℕ) (ns : List ℕ) → k + length ns ≤ length cells
     → putAt (sectioned code records word partners counts cells) (queuesAt + cellSize * k) (flat (bytesOf cellSize) ns)
     ≡ sectioned code records word partners counts (putAt cells k ns)
@@ -289,7 +313,9 @@ put-cells code records word partners counts nr np nc cells k (n ∷ ns) h =
     let rest : k + 1 + length ns ≤ length (set cells k n) = rw (length-set cells k n) (omega arith) in
     let e : queuesAt + cellSize * k + cellSize ≡ queuesAt + cellSize * (k + 1) = omega arith in
     put-append memory (queuesAt + cellSize * k) (bytesOf cellSize n) (flat (bytesOf cellSize) ns)
-    ∙ ap (λ (j : ℕ). putAt (putAt memory (queuesAt + cellSize * k) (bytesOf cellSize n)) (queuesAt + cellSize * k + j) (flat (bytesOf cellSize) ns)) (length-bytes cellSize n)
+    ∙ ap (λ (j : ℕ). putAt (putAt memory (queuesAt + cellSize * k) (bytesOf cellSize n)) (queuesAt + cellSize * k + j)
+    (flat (bytesOf cellSize) ns)) (length-bytes cellSize n)
     ∙ ap (λ (j : ℕ). putAt (putAt memory (queuesAt + cellSize * k) (bytesOf cellSize n)) j (flat (bytesOf cellSize) ns)) e
-    ∙ ap (λ (m : List ℕ). putAt m (queuesAt + cellSize * (k + 1)) (flat (bytesOf cellSize) ns)) (put-cell code records word partners counts cells nr np nc k n here)
+    ∙ ap (λ (m : List ℕ). putAt m (queuesAt + cellSize * (k + 1)) (flat (bytesOf cellSize) ns))
+    (put-cell code records word partners counts cells nr np nc k n here)
     ∙ put-cells code records word partners counts nr np nc (set cells k n) (k + 1) ns rest

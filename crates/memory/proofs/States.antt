@@ -1,5 +1,5 @@
--- The state memory by records and ends: a record written is the state with that record, an end's four sections written are the state with that
--- end, and each is read where it stands. Writing asks only that the lists have their lengths (`Sized`). Assumes nothing.
+-- The state memory by records and ends: a record written is the state with that record, an end's four sections written are the state
+-- with that end, and each is read where it stands. Writing asks only that the lists have their lengths (`Sized`). Assumes nothing.
 use mathlib.Core.Path.{_≡_, refl, sym, ap, _∙_, subst}
 use mathlib.Core.List.{List, [], _∷_, _++_, map, append-nil}
 use Prim.Native.Nat.{ℕ, zero, suc, _+_, _*_, _^_, _≤_, _<_}
@@ -54,7 +54,8 @@ pub counts-set : (l : List EndState) (e : ℕ) (x : EndState) → countsOf (set 
 unfolding countsOf
 counts-set l e x = map-set queueLength l e x
 
-pub cells-set : (l : List EndState) (e : ℕ) (x : EndState) → e < length l → allCells (set l e x) ≡ putAt (allCells l) (queueDepth * e) (cellsOf x)
+pub cells-set : (l : List EndState) (e : ℕ) (x : EndState) → e < length l → allCells (set l e x)
+    ≡ putAt (allCells l) (queueDepth * e) (cellsOf x)
 unfolding allCells
 cells-set l e x h = sym (put-flat cellsOf queueDepth length-cells l e x h)
 
@@ -72,14 +73,16 @@ module _ (st : State) (z : Sized st) where
   record-written i x h =
       let w = freeWord (st .ends) in
       ap (λ (m : List ℕ). putAt m (recordsAt + recordSize * i) (recordBytes x)) (layout-is st)
-      ∙ put-record (st .code) (st .records) w (partnersOf (st .ends)) (countsOf (st .ends)) (allCells (st .ends)) (z .records-sized) partners-long counts-long i x h
+      ∙ put-record (st .code) (st .records) w (partnersOf (st .ends)) (countsOf (st .ends)) (allCells (st .ends))
+      (z .records-sized) partners-long counts-long i x h
       ∙ sym (layout-is (setRecord st i x))
 
   pub record-number : (k i o : ℕ) → i < recordCount → o + k ≤ recordSize
       → numberAt k (layout st) (recordsAt + recordSize * i + o) ≡ numberAt k (recordBytes (recordAt st i)) o
   record-number k i o h l =
       ap (λ (m : List ℕ). numberAt k m (recordsAt + recordSize * i + o)) (layout-is st)
-      ∙ number-record (st .code) (st .records) (freeWord (st .ends)) (partnersOf (st .ends)) (countsOf (st .ends)) (allCells (st .ends)) (z .records-sized)
+      ∙ number-record (st .code) (st .records) (freeWord (st .ends)) (partnersOf (st .ends)) (countsOf (st .ends)) (allCells (st .ends))
+      (z .records-sized)
       partners-long counts-long k i o h l
 
   -- ---- ends
@@ -87,14 +90,16 @@ module _ (st : State) (z : Sized st) where
   pub word-read : numberAt freeSize (layout st) freeAt ≡ freeWord (st .ends)
   word-read =
       ap (λ (m : List ℕ). numberAt freeSize m freeAt) (layout-is st)
-      ∙ number-word (st .code) (st .records) (freeWord (st .ends)) (partnersOf (st .ends)) (countsOf (st .ends)) (allCells (st .ends)) (z .records-sized)
+      ∙ number-word (st .code) (st .records) (freeWord (st .ends)) (partnersOf (st .ends)) (countsOf (st .ends)) (allCells (st .ends))
+      (z .records-sized)
       partners-long counts-long (subst (λ (k : ℕ). freeWord (st .ends) < 2 ^ k) (z .ends-sized) (free-word-fits (st .ends)))
 
   pub partner-read : (e : ℕ) → e < endCount → getD (layout st) (partnersAt + e) 0 ≡ partnerByte (endAt st e)
   unfolding partnersOf partnerByte
   partner-read e h =
       ap (λ (m : List ℕ). getD m (partnersAt + e) 0) (layout-is st)
-      ∙ read-partner (st .code) (st .records) (freeWord (st .ends)) (partnersOf (st .ends)) (countsOf (st .ends)) (allCells (st .ends)) (z .records-sized)
+      ∙ read-partner (st .code) (st .records) (freeWord (st .ends)) (partnersOf (st .ends)) (countsOf (st .ends)) (allCells (st .ends))
+      (z .records-sized)
       partners-long counts-long e h
       ∙ List·getD-map partnerByte (st .ends) e free-end
 
@@ -102,7 +107,8 @@ module _ (st : State) (z : Sized st) where
   unfolding countsOf
   count-read e h =
       ap (λ (m : List ℕ). getD m (countsAt + e) 0) (layout-is st)
-      ∙ read-count (st .code) (st .records) (freeWord (st .ends)) (partnersOf (st .ends)) (countsOf (st .ends)) (allCells (st .ends)) (z .records-sized)
+      ∙ read-count (st .code) (st .records) (freeWord (st .ends)) (partnersOf (st .ends)) (countsOf (st .ends)) (allCells (st .ends))
+      (z .records-sized)
       partners-long counts-long e h
       ∙ List·getD-map queueLength (st .ends) e free-end
 
@@ -121,13 +127,15 @@ module _ (st : State) (z : Sized st) where
       let at = cells-at e i h k in
       let within : queueDepth * e + i < length (allCells (st .ends)) = omega (arith, length-all-cells (st .ends), z .ends-sized) in
       ap (λ (m : List ℕ). numberAt cellSize m (queuesAt + cellSize * (queueDepth * e + i))) (layout-is st)
-      ∙ number-cell (st .code) (st .records) (freeWord (st .ends)) (partnersOf (st .ends)) (countsOf (st .ends)) (allCells (st .ends)) (z .records-sized)
+      ∙ number-cell (st .code) (st .records) (freeWord (st .ends)) (partnersOf (st .ends)) (countsOf (st .ends)) (allCells (st .ends))
+      (z .records-sized)
       partners-long counts-long (queueDepth * e + i) within (rw at l)
       ∙ at
 
   -- an end's four sections, one after the other
   pub end-written : (e : ℕ) (x : EndState) → e < endCount
-      → putAt (putAt (putAt (putAt (layout st) freeAt (bytesOf freeSize (freeWord (set (st .ends) e x)))) (partnersAt + e) (partnerByte x ∷ []))
+      → putAt (putAt (putAt (putAt (layout st) freeAt (bytesOf freeSize (freeWord (set (st .ends) e x)))) (partnersAt + e)
+      (partnerByte x ∷ []))
       (countsAt + e) (queueLength x ∷ [])) (queuesAt + cellSize * (queueDepth * e)) (flat (bytesOf cellSize) (cellsOf x))
       ≡ layout (setEnd st e x)
   end-written e x h =
@@ -139,13 +147,16 @@ module _ (st : State) (z : Sized st) where
       let s = allCells (st .ends) in
       let p-long : length (set p e (partnerByte x)) ≡ endCount = length-set p e (partnerByte x) ∙ partners-long in
       let q-long : length (set q e (queueLength x)) ≡ endCount = length-set q e (queueLength x) ∙ counts-long in
-      let within : queueDepth * e + length (cellsOf x) ≤ length s = omega (arith, length-all-cells (st .ends), z .ends-sized, length-cells x) in
+      let within : queueDepth * e + length (cellsOf x) ≤ length s = omega
+      (arith, length-all-cells (st .ends), z .ends-sized, length-cells x) in
       ap (λ (m : List ℕ). after-word (putAt m freeAt (bytesOf freeSize w))) (layout-is st)
       ∙ ap after-word (put-word c r (freeWord (st .ends)) p q s (z .records-sized) partners-long counts-long w)
       ∙ ap after-partner (put-partner c r w p q s (z .records-sized) partners-long counts-long e (partnerByte x) h)
       ∙ ap after-count (put-count c r w (set p e (partnerByte x)) q s (z .records-sized) p-long counts-long e (queueLength x) h)
-      ∙ put-cells c r w (set p e (partnerByte x)) (set q e (queueLength x)) (z .records-sized) p-long q-long s (queueDepth * e) (cellsOf x) within
-      ∙ sym (λ i. sectioned c r w (partners-set (st .ends) e x i) (counts-set (st .ends) e x i) (cells-set (st .ends) e x (omega (arith, z .ends-sized)) i))
+      ∙ put-cells c r w (set p e (partnerByte x)) (set q e (queueLength x)) (z .records-sized) p-long q-long s (queueDepth * e)
+      (cellsOf x) within
+      ∙ sym (λ i. sectioned c r w (partners-set (st .ends) e x i) (counts-set (st .ends) e x i)
+      (cells-set (st .ends) e x (omega (arith, z .ends-sized)) i))
       ∙ sym (layout-is (setEnd st e x))
     where
       after-count : List ℕ → List ℕ

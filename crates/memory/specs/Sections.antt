@@ -1,5 +1,6 @@
--- The state memory as its six sections, so that a law can replace or read one and leave the others alone: the code, the records, the word of
--- free ends, the partners, the queue counts and the queue cells. `layout` of `rules` is these sections of a state. Assumes nothing.
+-- The state memory as its six sections, so that a law can replace or read one and leave the others alone: the code, the records, the
+-- word of free ends, the partners, the queue counts and the queue cells. `layout` of `rules` is these sections of a state. Assumes
+-- nothing.
 use Prim.Native.Nat.{ℕ}
 use mathlib.Core.List.{List, _++_, map}
 use lib.ListN.{length}

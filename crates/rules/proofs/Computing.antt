@@ -21,5 +21,16 @@ use Rattle.rules.specs.Text.{text, digitsBefore, decimal, signedDecimal}
 use Rattle.rules.specs.Printed.{printedAt, nameText, kindText, positionText, lineText, linesText, verdictText, lastText, runText, traceText}
 
 unfoldable pub computing : ℕ
-unfolding table flat pad pieces placesFrom freeEnds freeRecords start unless noCause formIn formOf lengths placesAt slotsAt instructionAt decode inSet keptBy overlap notTogether anyHeld anyOver anyEmpty listed anyRepeated allEmptied calleeSlots ownCauses sharedCauses lowestFree after meeting endCauses afterMeeting askRecord askEnd ask nextPosition firstOf nextStep steps reachedBy positionAfter allFree verdictOf ranBy runFrom instructionEvents recordEvents meetingEvents endEvents events history δ total placesOf waitsNaming all every allTrue valueWithin datumWithin slotWithin registersWithin recordWithin lastWithin endWithin byteWithin within pairedIn pairedTest placesTest waitsTest standsNamed standsDecoded standsIn standsLast standsTest soundTest wordSum folded checkOf block blocks blockCount headed imageOf writeCauses written anyCheckWrong dataIn imageData codeLength codeIn anyNonzero readCauses readImage valueBytes registersBytes noRegisters recordBytes freeWord partnerByte datumCell lastCell lastCells queueCells queueBytes layout viewOptional viewValue viewValues viewRegisters viewStatus viewRecord viewCell viewCells viewQueue viewEnd viewEnds view sameBytes soundBytes load writeAnswer write callRecord callEnd callFreeEnds runAnswer callRun text digitsBefore decimal signedDecimal printedAt nameText kindText positionText lineText linesText verdictText lastText runText traceText
+unfolding table flat pad pieces placesFrom freeEnds freeRecords start unless noCause formIn formOf lengths placesAt slotsAt
+    instructionAt decode inSet keptBy overlap notTogether anyHeld anyOver anyEmpty listed anyRepeated allEmptied calleeSlots
+    ownCauses sharedCauses lowestFree after meeting endCauses afterMeeting askRecord askEnd ask nextPosition firstOf nextStep
+    steps reachedBy positionAfter allFree verdictOf ranBy runFrom instructionEvents recordEvents meetingEvents endEvents events
+    history δ total placesOf waitsNaming all every allTrue valueWithin datumWithin slotWithin registersWithin recordWithin
+    lastWithin endWithin byteWithin within pairedIn pairedTest placesTest waitsTest standsNamed standsDecoded standsIn standsLast
+    standsTest soundTest wordSum folded checkOf block blocks blockCount headed imageOf writeCauses written anyCheckWrong dataIn
+    imageData codeLength codeIn anyNonzero readCauses readImage valueBytes registersBytes noRegisters recordBytes freeWord
+    partnerByte datumCell lastCell lastCells queueCells queueBytes layout viewOptional viewValue viewValues viewRegisters
+    viewStatus viewRecord viewCell viewCells viewQueue viewEnd viewEnds view sameBytes soundBytes load writeAnswer write
+    callRecord callEnd callFreeEnds runAnswer callRun text digitsBefore decimal signedDecimal printedAt nameText kindText
+    positionText lineText linesText verdictText lastText runText traceText
 computing = 0

@@ -1,5 +1,5 @@
--- Laws of counting: sums over a list, and what one element put anew does to them. Everything that soundness asks is linear in these numbers.
--- Assumes nothing.
+-- Laws of counting: sums over a list, and what one element put anew does to them. Everything that soundness asks is linear in these
+-- numbers. Assumes nothing.
 use mathlib.Core.Path.{_≡_, refl, sym, ap, _∙_, subst}
 use mathlib.Core.Logic.{_≢_}
 use mathlib.Core.Bool.{Bool, true, false}
@@ -78,7 +78,8 @@ module _ {A : Type 0} where
   total-set f (x ∷ xs) (suc i) v d h = omega (arith, total-set f xs i v d (le-of-suc-le-suc h))
 
   -- the same, seen at one place
-  pub at-set : (f : A → ℕ) (l : List A) (i j : ℕ) (v d : A) → i < length l → f (getD (set l i v) j d) + δ i j * f (getD l i d) ≡ f (getD l j d) + δ i j * f v
+  pub at-set : (f : A → ℕ) (l : List A) (i j : ℕ) (v d : A) → i < length l → f (getD (set l i v) j d) + δ i j * f (getD l i d)
+      ≡ f (getD l j d) + δ i j * f v
   at-set f l i j v d h = go (ℕ-discrete j i)
     where
       go : Dec (j ≡ i) → f (getD (set l i v) j d) + δ i j * f (getD l i d) ≡ f (getD l j d) + δ i j * f v
@@ -113,21 +114,25 @@ module _ {A : Type 0} where
   total-zero f (x ∷ xs) d h = omega (arith, h 0, total-zero f xs d (λ i. h (suc i)))
 
   -- the same two laws with the old element given by an equation
-  pub total-put : (f : A → ℕ) (l : List A) (i : ℕ) (v d : A) {u : A} → getD l i d ≡ u → i < length l → total f (set l i v) + f u ≡ total f l + f v
+  pub total-put : (f : A → ℕ) (l : List A) (i : ℕ) (v d : A) {u : A} → getD l i d ≡ u → i < length l → total f (set l i v) + f u
+      ≡ total f l + f v
   total-put f l i v d h k = rw (← h) (total-set f l i v d k)
 
-  pub at-put : (f : A → ℕ) (l : List A) (i j : ℕ) (v d : A) {u : A} → getD l i d ≡ u → i < length l → f (getD (set l i v) j d) + δ i j * f u ≡ f (getD l j d) + δ i j * f v
+  pub at-put : (f : A → ℕ) (l : List A) (i j : ℕ) (v d : A) {u : A} → getD l i d ≡ u → i < length l
+      → f (getD (set l i v) j d) + δ i j * f u ≡ f (getD l j d) + δ i j * f v
   at-put f l i j v d h k = rw (← h) (at-set f l i j v d k)
 
   -- a weight that the new element keeps is kept everywhere
-  pub at-kept : {B : Type 0} (f : A → B) (l : List A) (i j : ℕ) (v d : A) {u : A} → getD l i d ≡ u → i < length l → f v ≡ f u → f (getD (set l i v) j d) ≡ f (getD l j d)
+  pub at-kept : {B : Type 0} (f : A → B) (l : List A) (i j : ℕ) (v d : A) {u : A} → getD l i d ≡ u → i < length l → f v ≡ f u
+      → f (getD (set l i v) j d) ≡ f (getD l j d)
   at-kept f l i j v d h k q = go (ℕ-discrete j i)
     where
       go : Dec (j ≡ i) → f (getD (set l i v) j d) ≡ f (getD l j d)
       go (yes e) = rw (e, getD-set-same l i v d k) (q ∙ ap f (sym h))
       go (no n) = rw (getD-set-other l i j v d n)
 
-  pub all-put : (p : A → Bool) (l : List A) (i : ℕ) (v d : A) → i < length l → ((j : ℕ) → T (p (getD l j d))) → T (p v) → (j : ℕ) → T (p (getD (set l i v) j d))
+  pub all-put : (p : A → Bool) (l : List A) (i : ℕ) (v d : A) → i < length l → ((j : ℕ) → T (p (getD l j d))) → T (p v) → (j : ℕ)
+      → T (p (getD (set l i v) j d))
   all-put p l i v d k all q j = go (ℕ-discrete j i)
     where
       go : Dec (j ≡ i) → T (p (getD (set l i v) j d))

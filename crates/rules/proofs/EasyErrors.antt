@@ -1,5 +1,5 @@
--- Document 01, "Easy errors here": for each a fact, computed from the definitions, that the error would change. `easy-errors` is the list with
--- one statement; the edits in must-fail/ make each error and are refused here. Assumes nothing.
+-- Document 01, "Easy errors here": for each a fact, computed from the definitions, that the error would change. `easy-errors` is the
+-- list with one statement; the edits in must-fail/ make each error and are refused here. Assumes nothing.
 use mathlib.Core.Path.{_≡_, refl}
 use Prim.Native.Nat.{ℕ, _+_}
 use mathlib.Core.Bool.{Bool, true, false}
@@ -80,7 +80,8 @@ put-is-noted = record {
 -- data all zero: FF FF is right, 00 00 is not
 abbrev pub exact-check : Fact
 exact-check =
-    fact (oneIf (anyCheckWrong 1 (replicate 510 0 ++ (0xFF ∷ 0xFF ∷ []))) ∷ oneIf (anyCheckWrong 1 (replicate 510 0 ++ (0 ∷ 0 ∷ []))) ∷ []) (0 ∷ 1 ∷ [])
+    fact (oneIf (anyCheckWrong 1 (replicate 510 0 ++ (0xFF ∷ 0xFF ∷ []))) ∷ oneIf (anyCheckWrong 1 (replicate 510 0 ++ (0 ∷ 0 ∷ [])))
+    ∷ []) (0 ∷ 1 ∷ [])
 
 abbrev pub errors : List Fact
 errors = not-poured ∷ new-partners ∷ shared-out ∷ behind-the-head ∷ put-is-noted ∷ exact-check ∷ []

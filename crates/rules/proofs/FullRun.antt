@@ -1,5 +1,5 @@
--- Document 01, "One run in full", computed from the definitions: the image with its check, the printed text, the memory at the end, and that
--- every state on the way is sound. Assumes nothing.
+-- Document 01, "One run in full", computed from the definitions: the image with its check, the printed text, the memory at the end, and
+-- that every state on the way is sound. Assumes nothing.
 use mathlib.Core.Path.{_≡_, refl}
 use Prim.Native.Nat.{ℕ, suc}
 use mathlib.Core.Bool.{Bool, true}

@@ -153,7 +153,8 @@ fact-11 =
 -- (12) pushing 10 then 20 and run with n = 2 makes environment place 0 hold 10
 abbrev pub fact-12 : Fact
 fact-12 = record {
-  found = getD (registersAfter (cst-bytes 10 ++ cst-bytes 20 ++ (0x1A ∷ 0 ∷ 0 ∷ 2 ∷ 0 ∷ [])) (0 ∷ 0 ∷ 0 ∷ []) 0 .environment) 0 (pos 0) ∷ [];
+  found = getD (registersAfter (cst-bytes 10 ++ cst-bytes 20 ++ (0x1A ∷ 0 ∷ 0 ∷ 2 ∷ 0 ∷ [])) (0 ∷ 0 ∷ 0 ∷ []) 0 .environment) 0 (pos 0)
+      ∷ [];
   said = pos 10 ∷ [];
 }
 

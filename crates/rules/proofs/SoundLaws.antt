@@ -59,8 +59,11 @@ end-read : (x : EndState) → endWithin x ≡ true → EndWithin x
 unfolding endWithin datumWithin
 end-read free-end h = tt
 end-read (used m ds l) h =
-    let t = all-true-read _ h in
-    (leb-true (queueLength (used m ds l)) _ (t .0), λ i. datum-read (getD ds i (handle 0)) (all-at datumWithin (handle 0) refl ds (t .1 .0) i))
+    let t = all-true-read _ h in (
+      leb-true (queueLength (used m ds l)) _ (t .0),
+      λ i. datum-read (getD ds i (handle 0))
+          (all-at datumWithin (handle 0) refl ds (t .1 .0) i),
+    )
 
 pub within-read : (st : State) → within st ≡ true → Within st
 unfolding within byteWithin recordWithin endWithin
@@ -161,9 +164,17 @@ stands-read code e (waiting g) t = go (decode code (g .place)) refl t
 -- the test passes: the state is sound
 pub sound-of-test : (st : State) → soundTest st ≡ true → Sound st
 unfolding soundTest within placesOf waitsNaming pairedTest placesTest waitsTest standsTest standsLast recordWithin endWithin
-sound-of-test st h = record { S1 = w; S2 = λ e. two e (decLt e endCount); S3 = λ e. three e (decLt e endCount); S4 = λ r. four r (decLt r recordCount); S5 = λ e r q. five e r q (decLt e endCount) }
+sound-of-test st h = record {
+  S1 = w;
+  S2 = λ e. two e (decLt e endCount);
+  S3 = λ e. three e (decLt e endCount);
+  S4 = λ r. four r
+      (decLt r recordCount);
+  S5 = λ e r q. five e r q (decLt e endCount);
+}
   where
-    t : AllTrue (within st ∷ every (pairedTest st) endCount ∷ every (placesTest st) endCount ∷ every (waitsTest st) recordCount ∷ every (standsTest st) endCount ∷ [])
+    t : AllTrue (within st ∷ every (pairedTest st) endCount ∷ every (placesTest st) endCount ∷ every (waitsTest st) recordCount
+        ∷ every (standsTest st) endCount ∷ [])
     t = all-true-read _ h
 
     w : Within st
@@ -200,7 +211,8 @@ sound-of-test st h = record { S1 = w; S2 = λ e. two e (decLt e endCount); S3 = 
         let passed = every-at (standsTest st) endCount (t .1 .1 .1 .1 .0) e l in
         stands-read (st .code) e (recordAt st r) (subst (λ (x : Option Last). standsLast st e x ≡ true) q passed)
     five e r q (no n) =
-        let z : none ≡ some (wait-item r) = ap lastOf (sym (end-over st w e (omega arith))) ∙ q in absurd (let k : _≡_ {A = ℕ} 0 1 = cc in omega arith)
+        let z : none ≡ some (wait-item r) = ap lastOf (sym (end-over st w e (omega arith)))
+        ∙ q in absurd (let k : _≡_ {A = ℕ} 0 1 = cc in omega arith)
 
 -- ---- in a sound state what is named is within the limits
 
@@ -236,7 +248,8 @@ unfolding datumWithin
 datum-write (value v) h = lt-ltb (mag v) valueBound h
 datum-write (handle n) h = lt-ltb n handleCount h
 
-registers-write : (g : Registers) → RegistersWithin g → ((e : ℕ) → 0 < total (inSlot e) (g .slots) → e < endCount) → registersWithin g ≡ true
+registers-write : (g : Registers) → RegistersWithin g → ((e : ℕ) → 0 < total (inSlot e) (g .slots) → e < endCount) → registersWithin g
+    ≡ true
 unfolding registersWithin slotWithin
 registers-write g w held = all-true-write _ (
   lt-ltb (g .place) _ (w .place-within),
@@ -268,7 +281,8 @@ record-write free-record w held = refl
 record-write (running g) w held = registers-write g w held
 record-write (waiting g) w held = registers-write g w held
 
-end-write : (x : EndState) → EndWithin x → ((e : ℕ) → 0 < carriedBy e x → e < endCount) → ((r : ℕ) → 0 < namedBy r x → r < recordCount) → endWithin x ≡ true
+end-write : (x : EndState) → EndWithin x → ((e : ℕ) → 0 < carriedBy e x → e < endCount) → ((r : ℕ) → 0 < namedBy r x → r < recordCount)
+    → endWithin x ≡ true
 unfolding endWithin lastWithin
 end-write free-end w carried named = refl
 end-write (used m ds l) w carried named = all-true-write _ (
@@ -276,7 +290,8 @@ end-write (used m ds l) w carried named = all-true-write _ (
   (all-from datumWithin (handle 0) ds (λ i. datum-write (getD ds i (handle 0)) (w .1 i)), (go l carried named, tt)),
 )
   where
-    go : (l : Option Last) → ((e : ℕ) → 0 < inLast e l → e < endCount) → ((r : ℕ) → 0 < namedBy r (used m ds l) → r < recordCount) → lastWithin l ≡ true
+    go : (l : Option Last) → ((e : ℕ) → 0 < inLast e l → e < endCount) → ((r : ℕ) → 0 < namedBy r (used m ds l) → r < recordCount)
+        → lastWithin l ≡ true
     go none carried named = refl
     go (some (split-item p q)) carried named =
         both (lt-ltb p endCount (carried p (omega (arith, δ-same p)))) (lt-ltb q endCount (carried q (omega (arith, δ-same q))))
@@ -296,9 +311,11 @@ within-write st s =
           (
             eq-eqb (length (st .ends)) _ (w .end-count),
             (
-              all-from recordWithin free-record (st .records) (λ r. record-write (recordAt st r) (w .records-within r) (held-within st s r)),
+              all-from recordWithin free-record (st .records)
+                  (λ r. record-write (recordAt st r) (w .records-within r) (held-within st s r)),
               (
-                all-from endWithin free-end (st .ends) (λ e. end-write (endAt st e) (w .ends-within e) (carried-within st s e) (named-within st s e)),
+                all-from endWithin free-end (st .ends) (λ e. end-write (endAt st e) (w .ends-within e) (carried-within st s e)
+                    (named-within st s e)),
                 tt,
               ),
             ),
@@ -316,7 +333,8 @@ stands-write : (code : List ℕ) (e : ℕ) (x : RecordState) → StandsAt code e
 unfolding standsIn standsDecoded standsNamed
 stands-write code e x s =
     rw (s .waits, s .decoded, s .named)
-    (both (names-write (slotAt (s .held) (s .wait .slot)) e (s .holds)) (no-cause-write (ownCauses (s .held) (s .there .instruction)) (s .no-cause)))
+    (both (names-write (slotAt (s .held) (s .wait .slot)) e (s .holds))
+    (no-cause-write (ownCauses (s .held) (s .there .instruction)) (s .no-cause)))
 
 -- the state is sound: the test passes
 pub test-of-sound : (st : State) → Sound st → soundTest st ≡ true

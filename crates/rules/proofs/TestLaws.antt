@@ -1,5 +1,5 @@
--- Laws of the tests that the definitions compute with: a conjunction is a tuple of equations, a test over a list or over the numbers below n
--- is the test at each, and no row of a table holds exactly if each test says so. Assumes nothing.
+-- Laws of the tests that the definitions compute with: a conjunction is a tuple of equations, a test over a list or over the numbers
+-- below n is the test at each, and no row of a table holds exactly if each test says so. Assumes nothing.
 use mathlib.Core.Path.{_≡_, refl, sym, ap, _∙_}
 use mathlib.Core.Logic.{_≢_}
 use mathlib.Core.Bool.{Bool, true, false, not}

@@ -83,7 +83,8 @@ abbrev pub handleChosen : Bool → Meeting → Meeting
 handleChosen true m = m
 handleChosen false m = mismatch
 
--- a value against a get: the record runs on after the get, value pushed; a handle n against an hcase of k places with n < k: it runs at place n
+-- a value against a get: the record runs on after the get, value pushed; a handle n against an hcase of k places with n < k: it runs at
+-- place n
 abbrev pub meetDatum : (from to r : ℕ) → Datum → Registers → Wanted → Meeting
 meetDatum from to r (value v) g (a-value next) =
     delivers from to r (value v) (registers next (v ∷ g .stack) (g .environment) (g .slots))

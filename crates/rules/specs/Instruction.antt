@@ -1,4 +1,5 @@
--- Document 01, "Instructions": the table of forms, the 256 lengths by first byte, and the decoder from the code and a place. Assumes nothing.
+-- Document 01, "Instructions": the table of forms, the 256 lengths by first byte, and the decoder from the code and a place. Assumes
+-- nothing.
 use Prim.Native.Nat.{ℕ, _+_, _-_, _*_}
 use mathlib.Core.Bool.{Bool, true, false}
 use mathlib.Core.Option.{Option, none, some}

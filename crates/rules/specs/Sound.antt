@@ -1,6 +1,6 @@
--- Document 01, "Sound": S1 to S5 as statements, over every number that a record, an end or a slot might have. A number over the last record's
--- or the last end's shows as free, so S2, S3 and S4 also say that no end and no record over the limits is named anywhere, and that a split's
--- two ends differ. The test that computes is in `SoundTest`. Assumes nothing.
+-- Document 01, "Sound": S1 to S5 as statements, over every number that a record, an end or a slot might have. A number over the last
+-- record's or the last end's shows as free, so S2, S3 and S4 also say that no end and no record over the limits is named anywhere, and
+-- that a split's two ends differ. The test that computes is in `SoundTest`. Assumes nothing.
 use mathlib.Core.Path.{_≡_}
 use mathlib.Core.Logic.{_≢_}
 use mathlib.Core.Option.{Option, none, some}
