@@ -19,7 +19,7 @@ use Rattle.rules.specs.Sound.{Sound}
 use Rattle.rules.specs.Events.{History, newHistory, history, stepsEvents}
 use Rattle.rules.specs.Image.{blockSize, dataSize, headSize, readCauses, codeIn, codeLength, imageData, dataIn, blocksIn, readImage}
 use Rattle.rules.specs.Layout.{stateSize, layout, view}
-use Rattle.rules.specs.Calls.{lengthCause, soundCause, startCause, called, whereSound, started, load, callRecord, callEnd, runAnswer, reachedOr, callRun, Call, ask-record, ask-end, run, memoryAfter, stepIf, stepsIf, callSteps, memoryAfterAll, allSteps, allEvents}
+use Rattle.rules.specs.Calls.{lengthCause, soundCause, startCause, called, whereSound, started, loadAnswer, load, recordAnswer, callRecord, endAnswer, callEnd, runAnswer, reachedOr, callRun, Call, ask-record, ask-end, run, memoryAfter, stepIf, stepsIf, callSteps, memoryAfterAll, allSteps, allEvents}
 use Rattle.keeping.specs.Queues.{AllAgree}
 use Rattle.keeping.specs.Demand3.{SoundMemory, EveryStep, Demand3}
 use Rattle.keeping.proofs.ValueLaws.{all-append, all-take, all-drop}
@@ -80,7 +80,7 @@ run-call m h budget p false q = done-called m h (steps budget (view m) p) _
     (run-chain (steps-are budget (view m) p (leb-false positionCount p q)))
 
 one-call : (m : List ℕ) → SoundMemory m → (c : Call) → Called′ m (callSteps m c) (memoryAfter m c)
-unfolding callSteps memoryAfter callRecord callEnd callRun runAnswer unless
+unfolding callSteps memoryAfter callRecord recordAnswer callEnd endAnswer callRun runAnswer unless
 one-call m h (ask-record r) =
     subst (λ (a : Answer State). Called′ m (stepIf r (view m) a) (called m a .memory)) (sym (where-sound m (askRecord (view m) r) h))
     (asked-call m h r (askRecord (view m) r) (λ st′ q. record-position (view m) (h .state-sound) r st′ q))
@@ -151,7 +151,7 @@ data-bytes (suc n) image b =
 -- an image that loads leaves the start state of its code, which is within the limits
 pub loaded : (m image : List ℕ) → ((i : ℕ) → getD image i 0 < 256) → load m image .number ≡ 0
     → (load m image .memory ≡ layout (start (codeIn image))) × Sound (start (codeIn image))
-unfolding load readImage readCauses codeIn imageData
+unfolding load loadAnswer readImage readCauses codeIn imageData
 loaded m image b h =
     let outer = unless-zero (lengthCause m ∷ []) (started (readImage image)) (omega arith, tt) h in
     let inner = unless-zero (readCauses image) (done (codeIn image)) (

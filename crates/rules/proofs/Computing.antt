@@ -16,7 +16,7 @@ use Rattle.rules.specs.Sound.{placesOf, waitsNaming}
 use Rattle.rules.specs.SoundTest.{all, every, allTrue, valueWithin, datumWithin, slotWithin, registersWithin, recordWithin, lastWithin, endWithin, byteWithin, within, pairedIn, pairedTest, placesTest, waitsTest, standsNamed, standsDecoded, standsIn, standsLast, standsTest, soundTest}
 use Rattle.rules.specs.Image.{wordSum, folded, checkOf, block, blocks, blockCount, headed, imageOf, writeCauses, written, anyCheckWrong, dataIn, imageData, codeLength, codeIn, anyNonzero, readCauses, readImage}
 use Rattle.rules.specs.Layout.{valueBytes, registersBytes, noRegisters, recordBytes, freeWord, partnerByte, datumCell, lastCell, lastCells, queueCells, queueBytes, layout, viewOptional, viewValue, viewValues, viewRegisters, viewStatus, viewRecord, viewCell, viewCells, viewQueue, viewEnd, viewEnds, view}
-use Rattle.rules.specs.Calls.{sameBytes, soundBytes, load, writeAnswer, write, callRecord, callEnd, callFreeEnds, runAnswer, callRun}
+use Rattle.rules.specs.Calls.{sameBytes, soundBytes, loadAnswer, load, writeAnswer, write, recordAnswer, callRecord, endAnswer, callEnd, callFreeEnds, runAnswer, callRun}
 use Rattle.rules.specs.Text.{text, digitsBefore, decimal, signedDecimal}
 use Rattle.rules.specs.Printed.{printedAt, nameText, kindText, positionText, lineText, linesText, verdictText, lastText, runText, traceText}
 
@@ -30,7 +30,7 @@ unfolding table flat pad pieces placesFrom freeEnds freeRecords start unless noC
     standsTest soundTest wordSum folded checkOf block blocks blockCount headed imageOf writeCauses written anyCheckWrong dataIn
     imageData codeLength codeIn anyNonzero readCauses readImage valueBytes registersBytes noRegisters recordBytes freeWord
     partnerByte datumCell lastCell lastCells queueCells queueBytes layout viewOptional viewValue viewValues viewRegisters
-    viewStatus viewRecord viewCell viewCells viewQueue viewEnd viewEnds view sameBytes soundBytes load writeAnswer write
-    callRecord callEnd callFreeEnds runAnswer callRun text digitsBefore decimal signedDecimal printedAt nameText kindText
+    viewStatus viewRecord viewCell viewCells viewQueue viewEnd viewEnds view sameBytes soundBytes loadAnswer load writeAnswer write
+    recordAnswer callRecord endAnswer callEnd callFreeEnds runAnswer callRun text digitsBefore decimal signedDecimal printedAt nameText kindText
     positionText lineText linesText verdictText lastText runText traceText
 computing = 0

@@ -63,8 +63,11 @@ started (refused n) = refused n
 started (done code) = done (start code)
 
 -- 24, then 20 to 23; done, the memory holds the start state and the code
+unfoldable pub loadAnswer : (m image : List ℕ) → Answer State
+loadAnswer m image = unless (lengthCause m ∷ []) (started (readImage image))
+
 unfoldable pub load : (m image : List ℕ) → Called
-load m image = called m (unless (lengthCause m ∷ []) (started (readImage image)))
+load m image = called m (loadAnswer m image)
 
 abbrev pub outputOr : List ℕ → Answer (List ℕ) → List ℕ
 outputOr out (refused n) = out
@@ -80,12 +83,18 @@ write code out = record { number = numberOf (writeAnswer code out); memory = out
 -- ---- asking
 
 -- 24, 1, 2 to 15
+unfoldable pub recordAnswer : List ℕ → (r : ℕ) → Answer State
+recordAnswer m r = whereSound m (askRecord (view m) r)
+
 unfoldable pub callRecord : List ℕ → (r : ℕ) → Called
-callRecord m r = called m (whereSound m (askRecord (view m) r))
+callRecord m r = called m (recordAnswer m r)
 
 -- 24, 1, 16 to 19
+unfoldable pub endAnswer : List ℕ → (e : ℕ) → Answer State
+endAnswer m e = whereSound m (askEnd (view m) e)
+
 unfoldable pub callEnd : List ℕ → (e : ℕ) → Called
-callEnd m e = called m (whereSound m (askEnd (view m) e))
+callEnd m e = called m (endAnswer m e)
 
 -- how many ends are free, and the lowest free end
 pub record FreeEnds : Type 0 where
@@ -142,8 +151,8 @@ stepsIf (done ran) ss = ss
 
 -- the steps that a call makes; a refused one makes none
 unfoldable pub callSteps : List ℕ → Call → List Step
-callSteps m (ask-record r) = stepIf r (view m) (whereSound m (askRecord (view m) r))
-callSteps m (ask-end e) = stepIf (recordCount + e) (view m) (whereSound m (askEnd (view m) e))
+callSteps m (ask-record r) = stepIf r (view m) (recordAnswer m r)
+callSteps m (ask-end e) = stepIf (recordCount + e) (view m) (endAnswer m e)
 callSteps m (run budget p) = stepsIf (runAnswer m budget p) (steps budget (view m) p)
 
 -- the memory after a list of calls, the steps that they make, in order, and what these create, put and take
