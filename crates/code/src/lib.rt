@@ -11,6 +11,7 @@ use rules::Slot;
 pub mod lengths; // lengths.rt: the length of an instruction's fixed part by its first byte
 mod operands; // operands.rt: bytes, places and signed numbers in the code
 mod forms; // forms.rt: the seventeen forms, each with its operands
+pub mod listed; // listed.rt: the places of an hcase and the slots of a run
 
 // One case for each row of document 01's table. The places of an hcase and the slots of a run stay in the code.
 pub enum Instruction {

@@ -9,7 +9,7 @@ ghost use Rattle.rules.specs.Instruction.{byteAt, placeAt, signedAt};
 ghost use Rattle.rules.specs.Numbers.{slotNumber};
 use rules::Slot;
 
-fn join16(high: u8, low: u8) -> u16
+pub fn join16(high: u8, low: u8) -> u16
     ensures { λ r. ⌜ r ≡ 256 * high + low ⌝ }
 {
     256 * (high as u16) + (low as u16)
