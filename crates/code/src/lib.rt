@@ -4,14 +4,18 @@ ghost use mathlib.Core.Path.{_≡_};
 ghost use Rattle.rules.specs.Instruction.{lengths as lengthsOfRules, decode as decodedByRules};
 ghost use Rattle.code.specs.Meaning.{meaning};
 use lengths::fixed_length;
-use lengths::length_table;
 use operands::byte_at;
 use rules::Slot;
 
-pub mod lengths; // lengths.rt: the length of an instruction's fixed part by its first byte
+mod lengths; // lengths.rt: the length of an instruction's fixed part by its first byte
 mod operands; // operands.rt: bytes, places and signed numbers in the code
 mod forms; // forms.rt: the seventeen forms, each with its operands
-pub mod listed; // listed.rt: the places of an hcase and the slots of a run
+mod listed; // listed.rt: the places of an hcase and the slots of a run
+
+pub use lengths::LENGTHS;
+pub use lengths::length_table;
+pub use listed::case_place;
+pub use listed::listed_slot;
 
 // One case for each row of document 01's table. The places of an hcase and the slots of a run stay in the code.
 pub enum Instruction {
