@@ -65,7 +65,7 @@ pub enum Decoded {
 }
 
 // The instruction at a place with the place after it, or bad. The table is the caller's, bound once for many decodes.
-pub fn decode_with(lengths: &[u8; 256], code: &[u8], place: usize) -> Decoded
+pub fn decode(lengths: &[u8; 256], code: &[u8], place: usize) -> Decoded
     requires { ⌜ now lengths ≡ lengthsOfRules ⌝ }
     ensures { λ r. ⌜ meaning (now (code .entry)) place r ≡ decodedByRules (now (code .entry)) place ⌝ }
 {
@@ -80,10 +80,10 @@ pub fn decode_with(lengths: &[u8; 256], code: &[u8], place: usize) -> Decoded
     forms::decode_fixed(code, place, first, place + size)
 }
 
-// The same for a caller that decodes once and asks for nothing.
-pub fn decode(code: &[u8], place: usize) -> Decoded
+// The same for a caller that decodes once: it asks for nothing, and binds the table itself.
+pub fn decode_once(code: &[u8], place: usize) -> Decoded
     ensures { λ r. ⌜ meaning (now (code .entry)) place r ≡ decodedByRules (now (code .entry)) place ⌝ }
 {
     let lengths = length_table();
-    decode_with(&lengths, code, place)
+    decode(&lengths, code, place)
 }

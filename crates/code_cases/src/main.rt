@@ -15,7 +15,7 @@ fn show(table: &[u8; 256], label: &[u8], bytes: &[u8], place: usize)
 {
     text(label);
     text(b":");
-    match code::decode_with(table, bytes, place) {
+    match code::decode(table, bytes, place) {
         Decoded::Good(i, next) => {
             instruction(bytes, place, i);
             text(b", next");

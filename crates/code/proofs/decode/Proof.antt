@@ -1,4 +1,4 @@
--- `code::decode_with` meets its contract: a place past the code, and a fixed part that runs past it, are refused here; the rest is
+-- `code::decode` meets its contract: a place past the code, and a fixed part that runs past it, are refused here; the rest is
 -- `decode_fixed`'s. Assumes nothing.
 use mathlib.Core.Path.{ap, _∙_}
 use Prim.Native.Nat.{ℕ}
@@ -6,8 +6,8 @@ use native.Mathlib.Omega.{arith}
 use borrow.Author.Needs.{needs}
 use Rattle.rules.specs.Instruction.{sizeOf, formOf}
 use Rattle.code.proofs.Decoding.{outside, short}
-use Rattle.code.proofs.decode_with.Statement.{statement}
-use Rattle.code.proofs.decode_with.Tie as tie
+use Rattle.code.proofs.decode.Statement.{statement}
+use Rattle.code.proofs.decode.Tie as tie
 
 returns : tie.Need-returns
 returns c = outside _ _ (c .if1 .taken)
@@ -41,8 +41,8 @@ decode-fixed-requires c κs = search needs
 returns-3 : tie.Need-returns-3
 returns-3 c = search needs
 
-pub decode-with-spec : {M : Type 1} → statement M
-decode-with-spec =
+pub decode-spec : {M : Type 1} → statement M
+decode-spec =
     tie.close
     (tie.spec
     returns
