@@ -1,0 +1,4 @@
+pub mod Tables
+pub mod Decoding
+pub mod Listing
+pub mod Determined
