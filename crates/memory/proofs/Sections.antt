@@ -61,28 +61,28 @@ put-one x m i b h = set-append-left x m i b h
 
 module _ (code : List ℕ) (records : List RecordState) (word : ℕ) (partners counts cells : List ℕ) where
   -- what stands behind the code, behind the records, behind the word of free ends
-  behindPartners : List ℕ
+  unfoldable pub behindPartners : List ℕ
   behindPartners = counts ++ flat (bytesOf cellSize) cells
 
-  behindWord : List ℕ
+  unfoldable pub behindWord : List ℕ
   behindWord = partners ++ behindPartners
 
-  behindRecords : List ℕ
+  unfoldable pub behindRecords : List ℕ
   behindRecords = bytesOf freeSize word ++ behindWord
 
-  behindCode : List ℕ
+  unfoldable pub behindCode : List ℕ
   behindCode = flat recordBytes records ++ behindRecords
 
 -- the memory, with something behind the code
-abbrev withCode : (code m : List ℕ) → List ℕ
+abbrev pub withCode : (code m : List ℕ) → List ℕ
 withCode code m = bytesOf 2 (length code) ++ (pad codeLimit 0 code ++ m)
 
-sections : (code : List ℕ) (records : List RecordState) (word : ℕ) (partners counts cells : List ℕ)
+pub sections : (code : List ℕ) (records : List RecordState) (word : ℕ) (partners counts cells : List ℕ)
     → sectioned code records word partners counts cells ≡ withCode code (behindCode code records word partners counts cells)
 unfolding sectioned behindCode behindRecords behindWord behindPartners
 sections code records word partners counts cells = refl
 
-put-code : (code m : List ℕ) (o : ℕ) (bytes : List ℕ) → putAt (withCode code m) (recordsAt + o) bytes ≡ withCode code (putAt m o bytes)
+pub put-code : (code m : List ℕ) (o : ℕ) (bytes : List ℕ) → putAt (withCode code m) (recordsAt + o) bytes ≡ withCode code (putAt m o bytes)
 put-code code m o bytes =
     let e : recordsAt + o ≡ 2 + (codeLimit + o) = omega arith in
     ap (λ (k : ℕ). putAt (withCode code m) k bytes) e

@@ -1,1 +1,64 @@
-// The state memory.
+// The lent state memory as a whole: its length, the start state, and the code in it. What stands where is docs/STATE.md and, as a
+// definition, `layout` of `rules`; records are worked on by `registers`, ends by `ends`.
+ghost use mathlib.Core.Path.{_≡_};
+ghost use mathlib.Core.List.{[]};
+ghost use Prim.Native.Nat.{_≤_};
+ghost use lib.ListN.{length};
+ghost use Rattle.rules.specs.Bytes.{bytesOf, flat, pad};
+ghost use Rattle.rules.specs.State.{start};
+ghost use Rattle.rules.specs.Layout.{stateSize, cellSize, queuesAt, layout};
+ghost use Rattle.words.specs.Parts.{putAt};
+
+// The fixed length of the state memory.
+pub const STATE_SIZE: usize = 16902;
+
+// Where the records, the word of free ends and the queues stand.
+const RECORDS_AT: usize = 8158;
+
+const FREE_AT: usize = 12670;
+
+const QUEUES_AT: usize = 12806;
+
+// Cells of all queues, 8 for each end.
+const CELL_COUNT: usize = 512;
+
+const CELL_SIZE: usize = 8;
+
+// All ends free: a bit for each.
+const ALL_FREE: u64 = 18446744073709551615;
+
+// Zeros in front, up to an index.
+fn clear(m: &mut [u8], to: usize)
+    requires { ⌜ to ≤ length (now m) ⌝ }
+    ensures { λ _. ⌜ now (m .exit) ≡ putAt (now (m .entry)) 0 (pad to 0 []) ⌝ }
+{
+    let mut i = 0;
+    while i < to {
+        m[i] = 0;
+        i += 1;
+    }
+}
+
+// The cells of all queues, one after the other.
+fn put_cells(m: &mut [u8], cells: &[u64])
+    requires { ⌜ (length (now m) ≡ stateSize) × (length (now cells) ≡ 512) ⌝ }
+    ensures { λ _. ⌜ now (m .exit) ≡ putAt (now (m .entry)) queuesAt (flat (bytesOf cellSize) (now (cells .entry))) ⌝ }
+{
+    let mut k = 0;
+    while k < CELL_COUNT {
+        words::put64(m, QUEUES_AT + CELL_SIZE * k, cells[k]);
+        k += 1;
+    }
+}
+
+// The start state and no code: record 0 runs at place 0, all ends are free, the 512 queue cells are zero.
+pub fn start(m: &mut [u8])
+    requires { ⌜ length (now m) ≡ stateSize ⌝ }
+    ensures { λ _. ⌜ now (m .exit) ≡ layout (start []) ⌝ }
+{
+    let cells = [0; 512];
+    clear(m, QUEUES_AT);
+    put_cells(m, &cells);
+    words::put8(m, RECORDS_AT, 1);
+    words::put64(m, FREE_AT, ALL_FREE);
+}
