@@ -70,9 +70,9 @@ zeros-front a b m = sym (append-assoc (zeros a) (zeros b) m) ∙ ap (λ (r : Lis
 -- the sections in front of the queues are zeros
 front-zeros : (q : List ℕ)
     → bytesOf 2 0
-      ++ (zeros codeLimit
-      ++ (flat recordBytes (replicate recordCount free-record)
-      ++ (bytesOf freeSize 0 ++ (replicate endCount 0 ++ (replicate endCount 0 ++ q)))))
+    ++ (zeros codeLimit
+    ++ (flat recordBytes (replicate recordCount free-record)
+    ++ (bytesOf freeSize 0 ++ (replicate endCount 0 ++ (replicate endCount 0 ++ q)))))
     ≡ zeros queuesAt ++ q
 front-zeros q =
     let records = flat-zeros recordBytes recordSize free-record free-zeros recordCount in

@@ -4,9 +4,10 @@ ghost use mathlib.Core.Path.{_≡_};
 ghost use mathlib.Core.List.{[]};
 ghost use Prim.Native.Nat.{_≤_};
 ghost use lib.ListN.{length};
-ghost use Rattle.rules.specs.Bytes.{bytesOf, flat, pad};
+ghost use Rattle.rules.specs.Limits.{codeLimit};
+ghost use Rattle.rules.specs.Bytes.{bytesOf, numberAt, flat, pad};
 ghost use Rattle.rules.specs.State.{start};
-ghost use Rattle.rules.specs.Layout.{stateSize, cellSize, queuesAt, layout};
+ghost use Rattle.rules.specs.Layout.{stateSize, cellSize, queuesAt, layout, view};
 ghost use Rattle.words.specs.Parts.{putAt};
 
 // The fixed length of the state memory.
@@ -61,4 +62,13 @@ pub fn start(m: &mut [u8])
     put_cells(m, &cells);
     words::put8(m, RECORDS_AT, 1);
     words::put64(m, FREE_AT, ALL_FREE);
+}
+
+// The loaded code, as a part of the memory.
+pub fn code(m: &[u8]) -> &[u8]
+    requires { ⌜ (length (now m) ≡ stateSize) × (numberAt 2 (now m) 0 ≤ codeLimit) ⌝ }
+    ensures { λ r. ⌜ now r ≡ view (now (m .entry)) .code ⌝ }
+{
+    let size = words::get16(m, 0) as usize;
+    &m[2..2 + size]
 }
