@@ -19,3 +19,4 @@ pub mod Chain
 pub mod Memories
 pub mod Start
 pub mod Demand3
+pub mod StepLaws
