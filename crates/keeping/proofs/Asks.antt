@@ -4,35 +4,34 @@ use mathlib.Core.Logic.{_≢_}
 use mathlib.Core.Bool.{Bool, true, false}
 use mathlib.Core.Option.{Option, none, some}
 use mathlib.Core.List.{List, [], _∷_, _++_}
-use Prim.Native.Nat.{ℕ, zero, suc, _+_, _-_, _≤_, _<_}
+use Prim.Native.Nat.{ℕ, _+_, _-_, _<_}
 use native.Mathlib.Omega.{arith}
-use lib.ListN.{length, getD, set}
+use lib.ListN.{length, getD}
 use lib.Seq.{set-comm}
 use lib.IntN.{pos}
 use lib.Dec.{ltb}
 use borrow.Author.Tests.{leb-false}
 use Rattle.rules.specs.Limits.{recordCount, stackDepth, slotCount, placeCount}
-use Rattle.rules.specs.State.{State, Datum, value, handle, Last, split-item, close-item, wait-item, Item, EndState, free-end, used, Registers, registers, RecordState, free-record, running, waiting, recordAt, endAt, setRecord, setEnd, slotAt, headOf, lastOf, isFreeEnd, lowestFreeRecord}
+use Rattle.rules.specs.State.{State, Datum, value, handle, Last, split-item, close-item, wait-item, EndState, free-end, used, Registers, registers, RecordState, free-record, running, waiting, recordAt, endAt, slotAt, headOf, lastOf, isFreeEnd, lowestFreeRecord}
 use Rattle.rules.specs.Refusal.{Row, Answer, refused, done, refuseIf, unless, NoCause}
 use Rattle.rules.specs.Instruction.{Instruction, cst, access, store, add, mul, leq, put, get, split, fork, plug, close, halt, same, hput, hcase, run, Decoded, decode}
 use Rattle.rules.specs.Causes.{stackFull, noFreeRecord, ownCauses, sharedCauses}
-use Rattle.rules.specs.RecordStep.{Fresh, lowestFree, after, branch, partnerIn}
-use Rattle.rules.specs.EndStep.{Wanted, a-value, a-handle, a-split, Wait, waitOf, Waiter, waiterIn, Meeting, mismatch, delivers, divides, closes, handleChosen, meetDatum, meetSplit, datumAgainst, splitAgainst, meetHeads, meeting, isMismatch, isDivision, onlyIf, endCauses, afterMeeting}
+use Rattle.rules.specs.RecordStep.{lowestFree, branch, partnerIn}
+use Rattle.rules.specs.EndStep.{Wanted, a-value, a-handle, a-split, Wait, waitOf, Waiter, waiterIn, Meeting, mismatch, delivers, handleChosen, meetDatum, meetSplit, datumAgainst, splitAgainst, meetHeads, meeting, isMismatch, isDivision, onlyIf, endCauses, afterMeeting}
 use Rattle.rules.specs.Ask.{askDecoded, askIn, askRecord, askEnd, pickAnswer, ask}
 use Rattle.rules.specs.Slots.{over, emptied}
 use Rattle.rules.specs.Count.{δ, total}
-use Rattle.rules.specs.Sound.{ValueWithin, DatumWithin, EndWithin, RecordWithin, RegistersWithin, inSlot, StandsAt, Sound}
-use Rattle.rules.specs.Events.{Event, taken-from, instructionEvents, decodedEvents, recordEventsIn, recordEvents, meetingEvents, endEvents, pickEvents, events}
+use Rattle.rules.specs.Sound.{ValueWithin, DatumWithin, EndWithin, RecordWithin, RegistersWithin, inSlot, Sound}
+use Rattle.rules.specs.Events.{taken-from, instructionEvents, decodedEvents, recordEventsIn, recordEvents, meetingEvents, endEvents, pickEvents, events}
 use Rattle.rules.proofs.CountLaws.{δ-sym}
 use Rattle.rules.proofs.TestLaws.{true-is-not-false}
 use Rattle.keeping.proofs.Move.{Move}
 use Rattle.keeping.proofs.FreeLaws.{record-free, lowest-serve}
 use Rattle.keeping.proofs.SlotLaws.{emptied-total, kept-total, kept-emptied, overlap-emptied}
-use Rattle.keeping.proofs.DecodeLaws.{OperandsWithin, DecodedWithin, decoded-within}
+use Rattle.keeping.proofs.DecodeLaws.{OperandsWithin, decoded-within}
 use Rattle.keeping.proofs.ValueLaws.{all-cons}
-use Rattle.keeping.proofs.Running.{used-not-free}
 use Rattle.keeping.proofs.Creating.{branch-within, branch-total}
-use Rattle.keeping.proofs.Joining.{PartnerOf, partner-of}
+use Rattle.keeping.proofs.Joining.{partner-of}
 use Rattle.keeping.proofs.Steps.{instruction-move}
 use Rattle.keeping.proofs.Meetings.{deliver-move, divide-move, close-move}
 

@@ -1,19 +1,17 @@
 -- Steps one after the other: where each is an ask that is done from where the one before left, sound states stay sound, histories go on
 -- agreeing, and nothing is lost. Assumes nothing.
-use mathlib.Core.Path.{_≡_, refl, sym, ap, _∙_, subst}
-use mathlib.Core.Option.{Option, none, some}
+use mathlib.Core.Path.{_≡_, refl, sym, subst}
 use mathlib.Core.List.{List, [], _∷_, _++_}
-use Prim.Native.Nat.{ℕ, zero, suc, _<_}
-use Rattle.rules.specs.Limits.{positionCount}
-use Rattle.rules.specs.State.{State, endAt}
+use Prim.Native.Nat.{ℕ}
+use Rattle.rules.specs.State.{State}
 use Rattle.rules.specs.Refusal.{done}
 use Rattle.rules.specs.Ask.{ask}
-use Rattle.rules.specs.Run.{Step, nextPosition, nextStep, steps, reachedBy}
+use Rattle.rules.specs.Run.{Step, reachedBy}
 use Rattle.rules.specs.Sound.{Sound}
 use Rattle.rules.specs.Events.{Event, History, history, events, stepsEvents}
 use Rattle.keeping.specs.Queues.{AllAgree}
 use Rattle.keeping.specs.Runs.{IsRun, budget-used, nothing-can, goes-on}
-use Rattle.keeping.specs.Demand3.{RightStep, EveryStep}
+use Rattle.keeping.specs.Demand3.{EveryStep}
 use Rattle.keeping.proofs.Move.{Move, move-sound, move-queues, agrees-on, nothing-lost}
 use Rattle.keeping.proofs.Asks.{ask-move}
 

@@ -1,14 +1,14 @@
 -- A step changes a few ends and a few records at once. `Change` lists the ten things that such a patch must meet, and `change` proves, once
 -- for every step, that a sound state stays sound. Each instruction only fills the record. Assumes nothing.
-use mathlib.Core.Path.{_≡_, refl, sym, ap, _∙_, subst}
+use mathlib.Core.Path.{_≡_, refl, _∙_}
 use mathlib.Core.Logic.{_⊎_, inl, inr}
-use mathlib.Core.Option.{Option, none, some}
-use mathlib.Core.List.{List, [], _∷_}
-use Prim.Native.Nat.{ℕ, _+_, _*_, _≤_, _<_}
+use mathlib.Core.Option.{some}
+use mathlib.Core.List.{List}
+use Prim.Native.Nat.{ℕ, _+_, _*_}
 use native.Mathlib.Omega.{arith}
-use lib.ListN.{length, getD}
-use Rattle.rules.specs.Count.{δ, total}
-use Rattle.rules.specs.State.{State, EndState, free-end, RecordState, free-record, recordAt, endAt, lastOf, Last, wait-item}
+use lib.ListN.{getD}
+use Rattle.rules.specs.Count.{δ}
+use Rattle.rules.specs.State.{State, EndState, free-end, RecordState, free-record, recordAt, endAt, lastOf, wait-item}
 use Rattle.rules.specs.Sound.{RecordWithin, EndWithin, Within, heldIn, carriedBy, givenUp, inUse, placesOf, namedBy, waitsNaming, isWaiting, StandsAt, Sound}
 use Rattle.rules.proofs.CountLaws.{δ-same}
 use Rattle.keeping.proofs.Patch.{Put, patched, olds, news, Outside, Valid, AllNew, AllOld, length-patched, total-patch, at-patch, patched-out, patched-all, total-rest, outside-or}

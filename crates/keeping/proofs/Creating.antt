@@ -1,34 +1,30 @@
 -- split and plug are moves: new ends come in pairs, each with a place, and are the events `created`. Assumes nothing.
 use mathlib.Core.Path.{_≡_, refl, sym, ap, _∙_, subst}
 use mathlib.Core.Logic.{_≢_}
-use mathlib.Core.Bool.{Bool, true, false, not}
+use mathlib.Core.Bool.{Bool, false, not}
 use mathlib.Core.Option.{Option, none, some}
-use mathlib.Core.List.{List, [], _∷_, _++_}
-use Prim.Native.Nat.{ℕ, zero, suc, _+_, _*_, _≤_, _<_}
+use mathlib.Core.List.{List, [], _∷_}
+use Prim.Native.Nat.{ℕ, _+_, _*_, _<_}
 use native.Mathlib.Decide.{ℕ-discrete}
 use native.Mathlib.Omega.{arith}
-use lib.ListN.{length, getD, set, length-set}
+use lib.ListN.{length, getD, length-set}
 use lib.Seq.{getD-set-same, getD-set-other}
-use lib.Dec.{eqb}
-use borrow.Author.Tests.{leb-false, eqb-false, eq-eqb, ne-eqb}
+use borrow.Author.Tests.{eq-eqb, ne-eqb}
 use Rattle.rules.specs.Limits.{placeCount}
-use Rattle.rules.specs.State.{State, Datum, handle, Last, split-item, wait-item, EndState, free-end, used, fresh-end, Registers, registers, RecordState, free-record, running, recordAt, endAt, setRecord, setEnd, slotAt, lastOf}
-use Rattle.rules.specs.Refusal.{NoCause}
-use Rattle.rules.specs.Instruction.{split, plug, Decoded, decode}
-use Rattle.rules.specs.Causes.{empty, taken, unlessSame, ownCauses, sharedCauses}
-use Rattle.rules.specs.RecordStep.{Fresh, branch, after}
+use Rattle.rules.specs.State.{State, Datum, Last, split-item, wait-item, free-end, used, fresh-end, Registers, free-record, running, recordAt, endAt, setRecord, setEnd, slotAt}
+use Rattle.rules.specs.Causes.{empty, taken, unlessSame}
+use Rattle.rules.specs.RecordStep.{branch}
 use Rattle.rules.specs.Slots.{Slots, isHeld, emptied, holding, inSet, keptBy}
 use Rattle.rules.specs.Count.{δ, total}
-use Rattle.rules.specs.Sound.{DatumWithin, EndWithin, RegistersWithin, inSlot, StandsAt, Sound}
-use Rattle.rules.specs.Events.{Event, created, instructionEvents}
+use Rattle.rules.specs.Sound.{EndWithin, RegistersWithin, inSlot, Sound}
+use Rattle.rules.specs.Events.{created}
 use Rattle.rules.proofs.CountLaws.{δ-ne, δ-sym}
 use Rattle.rules.proofs.TestLaws.{true-is-not-false}
 use Rattle.keeping.specs.Queues.{about}
 use Rattle.keeping.proofs.Move.{Move}
 use Rattle.keeping.proofs.FreeLaws.{FreeEnd, FreeRecord, TwoFree, FourFree}
-use Rattle.keeping.proofs.SlotLaws.{emptied-total, holding-total, kept-total, kept-outside, length-kept}
-use Rattle.keeping.proofs.Running.{used-not-free, used-in-list, running-in-list, registers-within}
-use Rattle.keeping.proofs.DecodeLaws.{OperandsWithin}
+use Rattle.keeping.proofs.SlotLaws.{emptied-total, holding-total, kept-outside, length-kept}
+use Rattle.keeping.proofs.Running.{used-not-free, used-in-list, running-in-list}
 
 -- ---- small laws
 
@@ -52,9 +48,6 @@ not-free st e p m ds l was f z = used-not-free (sym was ∙ ap (endAt st) z ∙ 
 running-not-free : (st : State) (r k : ℕ) (g : Registers) → recordAt st r ≡ running g → FreeRecord st k → r ≢ k
 running-not-free st r k g is f z = absurd
     (let n : running g ≡ free-record = sym is ∙ ap (recordAt st) z ∙ f .is-free in let one : _≡_ {A = ℕ} 0 1 = cc in omega arith)
-
-below-differs : {p q : ℕ} → p < q → p ≢ q
-below-differs {p} {q} h z = omega arith
 
 -- slot a is empty once c is emptied, unless it was taken
 taken-empty : (g : Registers) (a c : ℕ) → c < length (g .slots) → taken a c g ≡ false → getD (emptied (g .slots) c) a none ≡ none

@@ -1,17 +1,17 @@
 -- What the decoder answers is within the limits: a constant has 32 bits, a place two bytes, a handle one, and the next place is at most the
 -- code's length. Assumes nothing.
-use mathlib.Core.Path.{_≡_, refl, sym, ap, _∙_, subst}
+use mathlib.Core.Path.{_≡_, refl, subst}
 use mathlib.Core.Bool.{Bool, true, false}
 use mathlib.Core.Option.{Option, none, some}
-use mathlib.Core.List.{List, [], _∷_}
+use mathlib.Core.List.{List}
 use Prim.Native.Nat.{ℕ, zero, suc, _+_, _*_, _≤_, _<_}
 use native.Mathlib.Omega.{arith}
 use lib.ListN.{length, getD}
 use borrow.Author.Tests.{ltb-false}
 use mir.Syntax.{w32}
-use mir.Val.{toZ, Fits, SFits}
+use mir.Val.{Fits}
 use mir.Facts.{sfits-toZ}
-use Rattle.rules.specs.Limits.{placeCount, handleCount, codeLimit}
+use Rattle.rules.specs.Limits.{placeCount, handleCount}
 use Rattle.rules.specs.Bytes.{table}
 use Rattle.rules.specs.Refusal.{noCause}
 use Rattle.rules.specs.Instruction.{Instruction, cst, access, store, add, mul, leq, put, get, split, fork, plug, close, halt, same, hput, hcase, run, Name, cst-name, access-name, store-name, add-name, mul-name, leq-name, put-name, get-name, split-name, fork-name, plug-name, close-name, halt-name, same-name, hput-name, hcase-name, run-name, Form, formOf, byteAt, placeAt, signedAt, placesAt, instructionAt, placeAfter, misfits, Decoded, decodedIf, decodeAs, decode}

@@ -1,9 +1,8 @@
 -- Demand 3 on bytes: `demand-3`. Each call on a sound memory leaves a sound memory, and its steps lead from the one to the other.
 -- Assumes nothing.
 use mathlib.Core.Path.{_≡_, refl, sym, ap, _∙_, subst}
-use mathlib.Core.Bool.{Bool, true, false, not}
-use mathlib.Core.Option.{Option, none, some}
-use mathlib.Core.List.{List, [], _∷_, _++_}
+use mathlib.Core.Bool.{Bool, true, false}
+use mathlib.Core.List.{List, [], _∷_}
 use Prim.Native.Nat.{ℕ, zero, suc, _+_, _-_, _≤_, _<_}
 use native.Mathlib.Nat.{min-le-left}
 use native.Mathlib.Omega.{arith}
@@ -11,17 +10,17 @@ use lib.ListN.{length, getD, take, drop, length-take}
 use lib.Dec.{ltb, leb}
 use borrow.Author.Tests.{lt-ltb, le-ltb, leb-false, ltb-false, eq-eqb}
 use Rattle.rules.specs.Limits.{recordCount, positionCount, codeLimit}
-use Rattle.rules.specs.State.{State, Registers, RecordState, free-record, running, waiting, recordAt, endAt, start}
+use Rattle.rules.specs.State.{State, RecordState, free-record, running, waiting, recordAt, start}
 use Rattle.rules.specs.Refusal.{Row, Answer, refused, done, refuseIf, unless, numberOf, NoCause}
 use Rattle.rules.specs.Ask.{askIn, askRecord, askEnd, pickAnswer, ask}
-use Rattle.rules.specs.Run.{Step, Ran, steps, reachedBy, ranBy, runFrom}
+use Rattle.rules.specs.Run.{Step, Ran, steps, ranBy, runFrom}
 use Rattle.rules.specs.Sound.{Sound}
-use Rattle.rules.specs.Events.{History, newHistory, history, stepsEvents}
+use Rattle.rules.specs.Events.{newHistory}
 use Rattle.rules.specs.Image.{blockSize, dataSize, headSize, readCauses, codeIn, codeLength, imageData, dataIn, blocksIn, readImage}
 use Rattle.rules.specs.Layout.{stateSize, layout, view}
-use Rattle.rules.specs.Calls.{lengthCause, soundCause, startCause, called, whereSound, started, loadAnswer, load, recordAnswer, callRecord, endAnswer, callEnd, runAnswer, reachedOr, callRun, Call, ask-record, ask-end, run, memoryAfter, stepIf, stepsIf, callSteps, memoryAfterAll, allSteps, allEvents}
+use Rattle.rules.specs.Calls.{lengthCause, startCause, called, whereSound, started, loadAnswer, load, recordAnswer, callRecord, endAnswer, callEnd, runAnswer, reachedOr, callRun, Call, ask-record, ask-end, run, memoryAfter, stepIf, stepsIf, callSteps, memoryAfterAll, allSteps, allEvents}
 use Rattle.keeping.specs.Queues.{AllAgree}
-use Rattle.keeping.specs.Demand3.{SoundMemory, EveryStep, Demand3}
+use Rattle.keeping.specs.Demand3.{SoundMemory, Demand3}
 use Rattle.keeping.proofs.ValueLaws.{all-append, all-take, all-drop}
 use Rattle.keeping.proofs.Asks.{refused-is-not-done}
 use Rattle.keeping.proofs.Running.{running-in-list}

@@ -2,14 +2,13 @@
 -- Assumes nothing.
 use mathlib.Core.Path.{_≡_, refl, sym, ap, _∙_, subst}
 use mathlib.Core.Logic.{_≢_}
-use mathlib.Core.Bool.{Bool, true, false}
 use mathlib.Core.Option.{Option, none, some}
 use mathlib.Core.List.{List, [], _∷_}
-use Prim.Native.Nat.{ℕ, zero, suc, _+_, _*_, _≤_, _<_}
+use Prim.Native.Nat.{ℕ, _+_}
 use native.Mathlib.Omega.{arith}
-use lib.ListN.{length, getD, set}
+use lib.ListN.{getD, set}
 use lib.Seq.{getD-set-other}
-use Rattle.rules.specs.State.{State, Datum, Last, wait-item, EndState, free-end, used, Registers, RecordState, free-record, running, waiting, recordAt, endAt, setRecord, setEnd, lastOf, partnerOf}
+use Rattle.rules.specs.State.{State, Datum, Last, wait-item, EndState, free-end, used, Registers, free-record, running, recordAt, endAt, setRecord, setEnd, lastOf, partnerOf}
 use Rattle.rules.specs.Count.{δ, total}
 use Rattle.rules.specs.Sound.{EndWithin, inSlot, namedBy, waitsNaming, isWaiting, Paired, StandsAt, Sound}
 use Rattle.rules.proofs.CountLaws.{δ-ne, total-one}

@@ -1,18 +1,17 @@
 -- The steps at an end are moves: a datum delivered, a split divided, two closes. Assumes nothing.
 use mathlib.Core.Path.{_≡_, refl, sym, ap, _∙_, subst}
 use mathlib.Core.Logic.{_≢_}
-use mathlib.Core.Bool.{Bool, true, false}
 use mathlib.Core.Option.{Option, none, some}
 use mathlib.Core.List.{List, [], _∷_}
-use Prim.Native.Nat.{ℕ, zero, suc, _+_, _*_, _≤_, _<_}
+use Prim.Native.Nat.{ℕ, suc, _+_}
 use native.Mathlib.Omega.{arith}
-use lib.ListN.{length, getD, set}
+use lib.ListN.{getD, set}
 use lib.Seq.{getD-set-other}
 use borrow.Author.Tests.{eq-eqb, ne-eqb}
-use Rattle.rules.specs.State.{State, Datum, handle, Last, split-item, close-item, wait-item, EndState, free-end, used, Registers, RecordState, free-record, running, waiting, recordAt, endAt, setRecord, setEnd, lastOf}
+use Rattle.rules.specs.State.{State, Datum, Last, split-item, close-item, wait-item, EndState, free-end, used, Registers, free-record, running, waiting, recordAt, endAt, setRecord, setEnd, lastOf}
 use Rattle.rules.specs.Count.{δ, total}
-use Rattle.rules.specs.Sound.{EndWithin, RegistersWithin, RecordWithin, inSlot, namedBy, waitsNaming, isWaiting, StandsAt, Sound}
-use Rattle.rules.specs.Events.{Event, taken-from}
+use Rattle.rules.specs.Sound.{EndWithin, RegistersWithin, inSlot, namedBy, waitsNaming, isWaiting, StandsAt, Sound}
+use Rattle.rules.specs.Events.{taken-from}
 use Rattle.rules.proofs.CountLaws.{δ-same, δ-ne, δ-sym, total-two}
 use Rattle.keeping.specs.Queues.{about}
 use Rattle.keeping.proofs.Pairs.{mates, mated-of-paired}

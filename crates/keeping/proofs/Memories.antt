@@ -4,16 +4,13 @@ use mathlib.Core.Path.{_≡_, refl, sym, ap, _∙_, subst}
 use mathlib.Core.Bool.{Bool, true, false}
 use mathlib.Core.Option.{Option, none, some}
 use mathlib.Core.List.{List, [], _∷_}
-use Prim.Native.Nat.{ℕ, _+_, _≤_, _<_}
+use Prim.Native.Nat.{ℕ}
 use native.Mathlib.Omega.{arith}
-use lib.ListN.{length, getD}
+use lib.ListN.{length}
 use lib.Dec.{eqb}
 use borrow.Author.Tests.{eqb-true, eq-eqb}
-use Rattle.rules.specs.Limits.{recordCount, endCount}
 use Rattle.rules.specs.State.{State, Last, split-item, close-item, wait-item, endAt, lastOf}
-use Rattle.rules.specs.EndStep.{onlyIf}
-use Rattle.rules.specs.Count.{δ}
-use Rattle.rules.specs.Sound.{inLast, carriedBy, namedBy, namedByLast, Sound}
+use Rattle.rules.specs.Sound.{inLast, namedByLast, Sound}
 use Rattle.rules.specs.SoundTest.{soundTest}
 use Rattle.rules.specs.Layout.{stateSize, layout, view}
 use Rattle.rules.specs.Calls.{sameBytes, soundBytes}

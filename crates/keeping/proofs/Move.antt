@@ -8,11 +8,11 @@ use Prim.Native.Nat.{ℕ}
 use native.Mathlib.Omega.{arith}
 use lib.ListN.{getD}
 use lib.Dec.{eqb}
-use Rattle.rules.specs.State.{State, Datum, EndState, free-end, used, endAt, dataOf}
+use Rattle.rules.specs.State.{State, EndState, free-end, used, endAt, dataOf}
 use Rattle.rules.specs.Sound.{Sound, inUse}
 use Rattle.rules.specs.Events.{Event, created, put-on, taken-from, History, newHistory, morePut, moreTaken, pickHistory, history}
-use Rattle.keeping.specs.Queues.{endOfEvent, inFrontIf, about, QueueChange, Agrees, AllAgree, NothingLost}
-use Rattle.keeping.proofs.Patch.{Put, patched, Outside, Valid, AllNew, AllPut, news-of, patched-all}
+use Rattle.keeping.specs.Queues.{inFrontIf, about, QueueChange, Agrees, AllAgree, NothingLost}
+use Rattle.keeping.proofs.Patch.{Outside, Valid, AllPut, news-of, patched-all}
 use Rattle.keeping.proofs.Change.{EndPatch, RecordPatch, patchedState, Change, change}
 
 pub record Move (st st′ : State) (xs : List Event) : Type 0 where

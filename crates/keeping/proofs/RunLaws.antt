@@ -1,7 +1,7 @@
 -- Runs: the steps that the definition makes are those of `IsRun` (`steps-are`), the verdict is `VerdictIs` (`verdict-is`), and a
 -- position that can step in every state of a run is taken within as many steps as there are positions (`fair`). Assumes nothing.
 use mathlib.Core.Path.{_≡_, refl, sym, ap, _∙_, subst}
-use mathlib.Core.Logic.{_≢_, _⊎_, inl, inr}
+use mathlib.Core.Logic.{_≢_}
 use mathlib.Core.Bool.{Bool, true, false}
 use mathlib.Core.Option.{Option, none, some}
 use mathlib.Core.List.{List, [], _∷_}
@@ -11,12 +11,12 @@ use native.Mathlib.Decide.{ℕ-discrete, decLt}
 use native.Mathlib.Omega.{arith}
 use lib.ListN.{length, getD}
 use Rattle.rules.specs.Limits.{positionCount}
-use Rattle.rules.specs.State.{State, RecordState, free-record, running, waiting, recordAt, isFreeRecord}
+use Rattle.rules.specs.State.{State, RecordState, free-record, running, waiting}
 use Rattle.rules.specs.Refusal.{Answer, refused, done, isDone}
 use Rattle.rules.specs.Ask.{ask}
-use Rattle.rules.specs.Run.{Step, nextPosition, firstOf, nextStep, steps, Verdict, spent, finished, stuck, allFree, finishedIf, verdictIf, verdictOf}
+use Rattle.rules.specs.Run.{Step, nextPosition, firstOf, nextStep, steps, allFree, finishedIf, verdictIf, verdictOf}
 use Rattle.rules.proofs.TestLaws.{true-is-not-false}
-use Rattle.keeping.specs.Runs.{CanStep, CannotStep, NothingSteps, ahead, FirstAmong, FirstStep, IsRun, budget-used, nothing-can, goes-on, VerdictIs, EveryStateCan, positionsOf, TakenWithin}
+use Rattle.keeping.specs.Runs.{CanStep, CannotStep, NothingSteps, ahead, FirstAmong, FirstStep, IsRun, budget-used, nothing-can, goes-on, VerdictIs, EveryStateCan, TakenWithin}
 
 -- ---- positions
 

@@ -3,22 +3,21 @@
 -- appended (`datum-move`), a last item appended (`last-move`). Assumes nothing.
 use mathlib.Core.Path.{_≡_, refl, sym, ap, _∙_, subst}
 use mathlib.Core.Logic.{_≢_}
-use mathlib.Core.Bool.{Bool, true, false}
 use mathlib.Core.Option.{Option, none, some}
 use mathlib.Core.List.{List, [], _∷_, _++_}
 use Prim.Native.Nat.{ℕ, zero, suc, _+_, _*_, _≤_, _<_}
 use native.Mathlib.Omega.{arith}
 use lib.ListN.{length, getD, set, length-append}
-use borrow.Author.Tests.{leb-false, eq-eqb, ne-eqb}
+use borrow.Author.Tests.{eq-eqb, ne-eqb}
 use Rattle.rules.specs.Limits.{queueDepth}
-use Rattle.rules.specs.State.{State, Datum, handle, Last, split-item, close-item, wait-item, EndState, free-end, used, Registers, RecordState, free-record, running, waiting, recordAt, endAt, setRecord, setEnd, slotAt, queueLength, lastOf}
+use Rattle.rules.specs.State.{State, Datum, handle, Last, split-item, close-item, wait-item, EndState, free-end, used, Registers, RecordState, free-record, running, waiting, recordAt, endAt, setRecord, setEnd, slotAt, lastOf}
 use Rattle.rules.specs.Count.{δ, total}
-use Rattle.rules.specs.Sound.{DatumWithin, RegistersWithin, RecordWithin, inSlot, heldIn, inLast, carriedBy, givesUp, givenUp, inUse, placesOf, namedByLast, isWaiting, StandsAt, Sound}
-use Rattle.rules.specs.Events.{Event, put-on}
-use Rattle.rules.proofs.CountLaws.{δ-same, δ-ne, total-one, total-two, weighs-in}
+use Rattle.rules.specs.Sound.{DatumWithin, RegistersWithin, RecordWithin, inSlot, heldIn, inLast, givesUp, givenUp, inUse, placesOf, namedByLast, isWaiting, StandsAt, Sound}
+use Rattle.rules.specs.Events.{put-on}
+use Rattle.rules.proofs.CountLaws.{total-one, total-two, weighs-in}
 use Rattle.rules.proofs.SoundLaws.{slot-counts}
 use Rattle.keeping.specs.Queues.{about}
-use Rattle.keeping.proofs.Pairs.{mates, Mated, mated-of-paired}
+use Rattle.keeping.proofs.Pairs.{mates, mated-of-paired}
 use Rattle.keeping.proofs.Move.{Move}
 
 -- ---- small laws

@@ -1,24 +1,22 @@
 -- Laws of the slots: what the refusals 8 and 10 leave. Emptying and filling a slot changes a count by that slot; the slots of two
 -- branches are together those of the record; a callee gets all that is listed. `weight` is any count of a slot that an empty one does
 -- not change. Assumes nothing.
-use mathlib.Core.Path.{_≡_, refl, sym, ap, _∙_, subst}
-use mathlib.Core.Logic.{_≢_}
+use mathlib.Core.Path.{_≡_, refl, sym, ap, _∙_}
 use mathlib.Core.Bool.{Bool, true, false, not, xor, _&&_, _||_}
 use mathlib.Core.Option.{Option, none, some}
 use mathlib.Core.List.{List, [], _∷_, map}
 use Prim.Native.Nat.{ℕ, zero, suc, _+_, _/_, _≤_, _<_}
 use native.Mathlib.Nat.{le-of-suc-le-suc}
 use native.Mathlib.Omega.{arith}
-use lib.ListN.{length, getD, set, length-set, length-map, List·getD-eq-default}
-use lib.Seq.{getD-set-same, getD-set-other}
+use lib.ListN.{length, getD, length-set, length-map}
+use lib.Seq.{getD-set-other}
 use lib.Dec.{eqb}
 use borrow.Author.Tests.{leb-false, eqb-false}
 use Rattle.rules.specs.Limits.{slotCount}
 use Rattle.rules.specs.Bytes.{pad}
 use Rattle.rules.specs.Slots.{Slots, isHeld, emptied, holding, lowBit, inSet, keptIf, keptBy, overlap, notTogether, over, isEmpty, anyHeld, anyOver, anyEmpty, listed, anyRepeated, allEmptied, calleeSlots}
-use Rattle.rules.specs.Count.{δ, total}
-use Rattle.rules.specs.Sound.{inSlot}
-use Rattle.rules.proofs.CountLaws.{total-set, total-one}
+use Rattle.rules.specs.Count.{total}
+use Rattle.rules.proofs.CountLaws.{total-set}
 use Rattle.rules.proofs.TestLaws.{true-is-not-false}
 
 -- ---- tests that fail

@@ -1,17 +1,17 @@
 -- The start state of any code within the limits is sound, and every end's history begins empty. Assumes nothing.
 use mathlib.Core.Path.{_≡_, refl, sym, ap, _∙_, subst}
-use mathlib.Core.Option.{Option, none, some}
-use mathlib.Core.List.{List, [], _∷_}
-use Prim.Native.Nat.{ℕ, zero, suc, _+_, _-_, _≤_, _<_}
+use mathlib.Core.Option.{none, some}
+use mathlib.Core.List.{List, []}
+use Prim.Native.Nat.{ℕ, zero, suc, _-_, _≤_, _<_}
 use native.Mathlib.Omega.{arith}
-use lib.ListN.{length, getD, set, replicate}
+use lib.ListN.{length, getD, replicate}
 use Rattle.rules.specs.Limits.{recordCount, endCount, slotCount, codeLimit}
-use Rattle.rules.specs.State.{State, Last, wait-item, EndState, free-end, Registers, registers, RecordState, free-record, running, recordAt, endAt, lastOf, emptySlots, start}
-use Rattle.rules.specs.Count.{δ, total}
-use Rattle.rules.specs.Sound.{RegistersWithin, RecordWithin, EndWithin, Paired, inSlot, heldIn, carriedBy, placesOf, inUse, namedBy, waitsNaming, isWaiting, StandsAt, Sound}
+use Rattle.rules.specs.State.{wait-item, free-end, Registers, registers, RecordState, free-record, running, recordAt, endAt, lastOf, emptySlots, start}
+use Rattle.rules.specs.Count.{total}
+use Rattle.rules.specs.Sound.{RegistersWithin, RecordWithin, inSlot, heldIn, carriedBy, placesOf, namedBy, waitsNaming, isWaiting, Sound}
 use Rattle.rules.specs.Events.{newHistory}
 use Rattle.rules.proofs.CountLaws.{total-zero}
-use Rattle.keeping.specs.Queues.{Agrees, AllAgree}
+use Rattle.keeping.specs.Queues.{AllAgree}
 
 all-the-same : {A : Type 0} (n : ℕ) (a : A) (i : ℕ) → getD (replicate n a) i a ≡ a
 all-the-same zero a i = refl

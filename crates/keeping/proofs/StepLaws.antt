@@ -1,9 +1,9 @@
 -- A run step by step, as a loop makes it: the steps of a larger budget begin with those of a smaller one and go on from where they led
 -- (`steps-add`), and where nothing can step a larger budget changes nothing (`steps-stop`). Assumes nothing.
-use mathlib.Core.Path.{_≡_, refl, sym, ap, _∙_, subst}
+use mathlib.Core.Path.{_≡_, refl, ap, _∙_}
 use mathlib.Core.Option.{Option, none, some}
-use mathlib.Core.List.{List, [], _∷_, _++_, append-nil}
-use Prim.Native.Nat.{ℕ, zero, suc, _+_, _≤_, _<_}
+use mathlib.Core.List.{List, [], _∷_, _++_}
+use Prim.Native.Nat.{ℕ, zero, suc, _+_}
 use native.Mathlib.Nat.{zero-add, suc-add, suc-inj}
 use native.Mathlib.Omega.{arith}
 use lib.ListN.{length}

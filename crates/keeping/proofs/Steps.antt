@@ -4,8 +4,8 @@ use mathlib.Core.Path.{_≡_, refl, sym, ap, _∙_, subst}
 use mathlib.Core.Logic.{_≢_}
 use mathlib.Core.Bool.{Bool, true, false}
 use mathlib.Core.Option.{Option, none, some}
-use mathlib.Core.List.{List, [], _∷_, _++_, reverse}
-use Prim.Native.Nat.{ℕ, zero, suc, _+_, _*_, _≤_, _<_}
+use mathlib.Core.List.{List, [], _∷_, reverse}
+use Prim.Native.Nat.{ℕ, suc, _+_, _≤_, _<_}
 use native.Mathlib.Nat.{min-le-right}
 use native.Mathlib.Omega.{arith}
 use lib.ListN.{length, getD, set, take, drop, length-set, length-drop, length-take, length-reverse}
@@ -15,16 +15,16 @@ use lib.Signed.{mag, leZ}
 use lib.Dec.{leb, ltb, eqb}
 use borrow.Author.Tests.{leb-false, ltb-false, eqb-false}
 use Rattle.rules.specs.Limits.{endCount, queueDepth, slotCount, stackDepth, environmentDepth, placeCount, valueBound}
-use Rattle.rules.specs.State.{State, Value, Datum, value, handle, Last, split-item, close-item, wait-item, EndState, used, Registers, registers, RecordState, free-record, running, waiting, recordAt, endAt, setRecord, setEnd, slotAt, endIn, endOr, partnerOf, queueLength, appended, Item, datum, last}
+use Rattle.rules.specs.State.{State, Value, Datum, value, handle, close-item, wait-item, EndState, used, Registers, registers, RecordState, free-record, running, waiting, recordAt, endAt, setRecord, slotAt, endIn, endOr, partnerOf, queueLength}
 use Rattle.rules.specs.Refusal.{NoCause}
 use Rattle.rules.specs.Instruction.{Instruction, cst, access, store, add, mul, leq, put, get, split, fork, plug, close, halt, same, hput, hcase, run, Decoded, decode}
 use Rattle.rules.specs.Causes.{top, below, fewer, empty, names, partners, queueFull, queueNotEmpty, othersThanBothHeld, ownCauses, sharedCauses}
 use Rattle.rules.specs.RecordStep.{Fresh, yesOrNo, waits, after}
-use Rattle.rules.specs.EndStep.{Wanted, a-value, a-handle, a-split, Wait, waitOf}
+use Rattle.rules.specs.EndStep.{a-value, a-handle, a-split, Wait, waitOf}
 use Rattle.rules.specs.Slots.{over, emptied, calleeSlots}
 use Rattle.rules.specs.Count.{δ, total}
 use Rattle.rules.specs.Sound.{ValueWithin, RegistersWithin, EndWithin, inSlot, heldIn, inUse, placesOf, StandsAt, Sound}
-use Rattle.rules.specs.Events.{Event, instructionEvents}
+use Rattle.rules.specs.Events.{instructionEvents}
 use Rattle.rules.proofs.CountLaws.{δ-same, δ-sym, total-one}
 use Rattle.keeping.proofs.Pairs.{mates, mated-of-paired}
 use Rattle.keeping.proofs.Move.{Move}
@@ -32,7 +32,7 @@ use Rattle.keeping.proofs.FreeLaws.{TwoFree, FourFree, FreeRecord, Fres
 use Rattle.keeping.proofs.Creating.{splitSlots, length-split, split-total, split-move, plug-move, branch-within, branch-total}
 use Rattle.keeping.proofs.Joining.{partner-of, same-move}
 use Rattle.keeping.proofs.SlotLaws.{held-slot, emptied-total, none-held, kept-total, callee-total, length-callee}
-use Rattle.keeping.proofs.DecodeLaws.{OperandsWithin, DecodedWithin, decoded-within}
+use Rattle.keeping.proofs.DecodeLaws.{OperandsWithin, decoded-within}
 use Rattle.keeping.proofs.ValueLaws.{all-cons, all-drop, all-take, all-reverse}
 use Rattle.keeping.proofs.Running.{running-in-list, registers-within, OwnEnd, own-end, quiet-move, datum-move, last-move}
 

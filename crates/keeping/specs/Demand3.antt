@@ -5,7 +5,7 @@
 use mathlib.Core.Path.{_≡_}
 use mathlib.Core.List.{List, [], _∷_, _++_}
 use Prim.Native.Nat.{ℕ}
-use Rattle.rules.specs.State.{State, endAt}
+use Rattle.rules.specs.State.{endAt}
 use Rattle.rules.specs.Refusal.{done}
 use Rattle.rules.specs.Ask.{ask}
 use Rattle.rules.specs.Run.{Step}

@@ -5,7 +5,7 @@ use mathlib.Core.Bool.{Bool, true, false}
 use mathlib.Core.List.{List, [], _∷_, _++_}
 use Prim.Native.Nat.{ℕ}
 use lib.Dec.{eqb}
-use Rattle.rules.specs.State.{State, Datum, EndState, free-end, used, endAt, dataOf}
+use Rattle.rules.specs.State.{State, EndState, free-end, used, endAt, dataOf}
 use Rattle.rules.specs.Sound.{inUse}
 use Rattle.rules.specs.Events.{Event, created, put-on, taken-from, History}
 

@@ -1,12 +1,12 @@
 -- The code in the state memory: written behind its length where there was none, and read where it stands. Assumes nothing.
-use mathlib.Core.Path.{_≡_, refl, sym, ap, _∙_, subst}
-use mathlib.Core.List.{List, [], _∷_, _++_}
-use Prim.Native.Nat.{ℕ, _+_, _≤_, _<_}
+use mathlib.Core.Path.{_≡_, refl, sym, ap, _∙_}
+use mathlib.Core.List.{List, [], _++_}
+use Prim.Native.Nat.{ℕ, _+_, _≤_}
 use native.Mathlib.Omega.{arith}
-use lib.ListN.{length, getD, take, drop}
+use lib.ListN.{length}
 use Rattle.rules.specs.Limits.{codeLimit}
-use Rattle.rules.specs.Bytes.{bytesOf, numberAt, flat, pad}
-use Rattle.rules.specs.State.{State, start}
+use Rattle.rules.specs.Bytes.{bytesOf}
+use Rattle.rules.specs.State.{start}
 use Rattle.rules.specs.Layout.{freeWord, layout}
 use Rattle.words.specs.Parts.{putAt}
 use Rattle.words.proofs.Parts.{put-in, put-skip, put-all}

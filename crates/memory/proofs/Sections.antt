@@ -1,21 +1,21 @@
 -- The sections of the state memory: the layout of a state is its sections (`layout-is`), and for each section one law that replaces a
 -- piece of it and one that reads a piece of it. Writing asks only for lengths. Assumes nothing.
 use mathlib.Core.Path.{_≡_, refl, sym, ap, _∙_, subst}
-use mathlib.Core.List.{List, [], _∷_, _++_, map, append-nil, append-assoc}
-use Prim.Native.Nat.{ℕ, zero, suc, _+_, _*_, _^_, _≤_, _<_}
+use mathlib.Core.List.{List, [], _∷_, _++_, map, append-nil}
+use Prim.Native.Nat.{ℕ, _+_, _*_, _^_, _≤_, _<_}
 use native.Mathlib.Omega.{arith}
-use lib.ListN.{length, getD, set, take, drop, length-set, length-append, length-map, List·getD-map, List·getD-append}
-use lib.Seq.{getD-append-add, set-append-left}
+use lib.ListN.{length, getD, set, take, drop, length-set, List·getD-append}
+use lib.Seq.{set-append-left}
 use Rattle.rules.specs.Limits.{recordCount, endCount, queueDepth, codeLimit}
 use Rattle.rules.specs.Bytes.{bytesOf, numberAt, flat, pad}
-use Rattle.rules.specs.State.{State, EndState, RecordState, free-record, recordAt, queueLength}
-use Rattle.rules.specs.Layout.{cellSize, recordSize, freeSize, queueSize, recordsAt, freeAt, partnersAt, countsAt, queuesAt, stateSize, recordBytes, freeWord, partnerByte, queueCells, queueBytes, layout}
+use Rattle.rules.specs.State.{State, EndState, RecordState, free-record, queueLength}
+use Rattle.rules.specs.Layout.{cellSize, recordSize, freeSize, recordsAt, freeAt, partnersAt, countsAt, queuesAt, recordBytes, freeWord, partnerByte, queueCells, queueBytes, layout}
 use Rattle.words.specs.Parts.{putAt}
 use Rattle.words.proofs.Parts.{put-skip, put-in, put-all, put-append}
 use Rattle.words.proofs.Numbers.{length-bytes, number-skip, number-in, number-bytes}
 use Rattle.words.proofs.Pads.{length-pad}
 use Rattle.words.proofs.Pieces.{length-flat, put-flat, cut-flat, flat-append}
-use Rattle.keeping.proofs.LayoutLaws.{length-record, length-queue, Sized, length-layout}
+use Rattle.keeping.proofs.LayoutLaws.{length-record}
 use Rattle.memory.specs.Sections.{sectioned, cellsOf, partnersOf, countsOf, allCells}
 
 -- ---- the layout of a state

@@ -1,20 +1,18 @@
 -- The memory of the start state: zeros throughout are the layout of a state with nothing in use but no end marked free; with record 0's status and
 -- the word of free ends written it is the start state with no code. Assumes nothing.
-use mathlib.Core.Path.{_≡_, refl, sym, ap, _∙_, subst}
-use mathlib.Core.List.{List, [], _∷_, _++_, append-nil, append-assoc}
-use Prim.Native.Nat.{ℕ, zero, suc, _+_, _*_, _≤_, _<_}
+use mathlib.Core.Path.{_≡_, refl, sym, ap, _∙_}
+use mathlib.Core.List.{List, [], _∷_, _++_, append-assoc}
+use Prim.Native.Nat.{ℕ, zero, suc, _+_, _*_}
 use native.Mathlib.Nat.{suc-add, zero-add, mul-suc, mul-zero}
 use native.Mathlib.Omega.{arith}
-use lib.ListN.{length, getD, set, replicate, length-replicate, length-append}
+use lib.ListN.{length, set, replicate, length-append}
 use Rattle.rules.specs.Limits.{recordCount, endCount, codeLimit}
 use Rattle.rules.specs.Bytes.{bytesOf, flat, pad}
-use Rattle.rules.specs.State.{State, EndState, free-end, used, Registers, registers, RecordState, free-record, running, emptySlots, start}
+use Rattle.rules.specs.State.{free-end, registers, RecordState, free-record, running, emptySlots, start}
 use Rattle.rules.specs.Layout.{cellSize, recordSize, freeSize, recordsAt, freeAt, queuesAt, stateSize, registersBytes, noRegisters, recordBytes, freeWord, layout}
 use Rattle.words.specs.Parts.{putAt}
 use Rattle.words.proofs.Parts.{put-append, put-all}
 use Rattle.words.proofs.Pads.{length-pad}
-use Rattle.words.proofs.Numbers.{length-bytes}
-use Rattle.words.proofs.Pieces.{length-flat}
 use Rattle.memory.specs.Sections.{sectioned, cellsOf, partnersOf, countsOf, allCells}
 use Rattle.memory.proofs.Sections.{behindPartners, behindWord, behindRecords, behindCode, sections, put-code, layout-is, put-word}
 

@@ -1,25 +1,22 @@
 -- The state memory by records and ends: a record written is the state with that record, an end's four sections written are the state
 -- with that end, and each is read where it stands. Writing asks only that the lists have their lengths (`Sized`). Assumes nothing.
 use mathlib.Core.Path.{_≡_, refl, sym, ap, _∙_, subst}
-use mathlib.Core.List.{List, [], _∷_, _++_, map, append-nil}
+use mathlib.Core.List.{List, [], _∷_, map, append-nil}
 use Prim.Native.Nat.{ℕ, zero, suc, _+_, _*_, _^_, _≤_, _<_}
-use native.Mathlib.Nat.{pow-succ', suc-mul, mul-suc}
 use native.Mathlib.Omega.{arith}
 use lib.ListN.{length, getD, set, take, drop, length-set, length-map, List·getD-map}
 use lib.Seq.{getD-take, getD-drop}
 use Rattle.rules.specs.Limits.{recordCount, endCount, queueDepth}
-use Rattle.rules.specs.Bytes.{bytesOf, numberAt, flat, pad}
-use Rattle.rules.specs.State.{State, EndState, free-end, used, RecordState, free-record, recordAt, endAt, setRecord, setEnd, queueLength, isFreeEnd}
-use Rattle.rules.specs.Layout.{cellSize, recordSize, freeSize, queueSize, recordsAt, freeAt, partnersAt, countsAt, queuesAt, recordBytes, freeWord, partnerByte, queueCells, queueBytes, layout}
+use Rattle.rules.specs.Bytes.{bytesOf, numberAt, flat}
+use Rattle.rules.specs.State.{State, EndState, free-end, RecordState, recordAt, endAt, setRecord, setEnd, queueLength}
+use Rattle.rules.specs.Layout.{cellSize, recordSize, freeSize, recordsAt, freeAt, partnersAt, countsAt, queuesAt, recordBytes, freeWord, partnerByte, queueCells, layout}
 use Rattle.words.specs.Parts.{putAt}
-use Rattle.words.proofs.Parts.{put-append}
-use Rattle.words.proofs.Numbers.{length-bytes}
 use Rattle.words.proofs.Pads.{length-pad}
 use Rattle.words.proofs.Pieces.{length-flat, put-flat, cut-flat}
 use Rattle.keeping.proofs.LayoutLaws.{Sized}
 use Rattle.keeping.proofs.ViewLaws.{free-word-fits}
 use Rattle.memory.specs.Sections.{sectioned, cellsOf, partnersOf, countsOf, allCells}
-use Rattle.memory.proofs.Sections.{layout-is, put-record, number-record, put-word, number-word, put-partner, read-partner, put-count, read-count, put-cell, number-cell, put-cells}
+use Rattle.memory.proofs.Sections.{layout-is, put-record, number-record, put-word, number-word, put-partner, read-partner, put-count, read-count, number-cell, put-cells}
 
 -- ---- lengths
 

@@ -6,8 +6,8 @@ use mathlib.Core.List.{List, _++_, map}
 use lib.ListN.{length}
 use Rattle.rules.specs.Limits.{queueDepth, codeLimit}
 use Rattle.rules.specs.Bytes.{bytesOf, flat, pad}
-use Rattle.rules.specs.State.{State, EndState, RecordState, queueLength}
-use Rattle.rules.specs.Layout.{cellSize, freeSize, recordBytes, freeWord, partnerByte, queueCells}
+use Rattle.rules.specs.State.{EndState, RecordState, queueLength}
+use Rattle.rules.specs.Layout.{cellSize, freeSize, recordBytes, partnerByte, queueCells}
 
 -- the sections one after the other
 unfoldable pub sectioned : (code : List ℕ) (records : List RecordState) (word : ℕ) (partners counts cells : List ℕ) → List ℕ

@@ -1,13 +1,10 @@
 -- Document 01, "Easy errors here": for each a fact, computed from the definitions, that the error would change. `easy-errors` is the
 -- list with one statement; the edits in must-fail/ make each error and are refused here. Assumes nothing.
 use mathlib.Core.Path.{_≡_, refl}
-use Prim.Native.Nat.{ℕ, _+_}
-use mathlib.Core.Bool.{Bool, true, false}
-use mathlib.Core.Option.{Option, none, some}
+use Prim.Native.Nat.{ℕ}
 use mathlib.Core.List.{List, [], _∷_, _++_, map}
-use lib.ListN.{getD, replicate}
+use lib.ListN.{replicate}
 use lib.IntN.{ℤ, pos}
-use Rattle.rules.specs.Limits.{recordCount}
 use Rattle.rules.specs.State.{State, Datum, value, handle, endAt, dataOf, slotAt}
 use Rattle.rules.specs.RecordStep.{partnerIn}
 use Rattle.rules.specs.SoundTest.{soundTest}

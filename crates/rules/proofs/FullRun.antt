@@ -1,10 +1,10 @@
 -- Document 01, "One run in full", computed from the definitions: the image with its check, the printed text, the memory at the end, and
 -- that every state on the way is sound. Assumes nothing.
 use mathlib.Core.Path.{_≡_, refl}
-use Prim.Native.Nat.{ℕ, suc}
-use mathlib.Core.Bool.{Bool, true}
+use Prim.Native.Nat.{ℕ}
+use mathlib.Core.Bool.{true}
 use mathlib.Core.List.{List, [], _∷_, _++_, map}
-use lib.ListN.{length, replicate, take, drop}
+use lib.ListN.{replicate}
 use Rattle.rules.specs.Limits.{recordCount, endCount}
 use Rattle.rules.specs.State.{State, free-record, free-end, start}
 use Rattle.rules.specs.Refusal.{done}

@@ -2,11 +2,10 @@
 -- with one statement, `small-facts`. Each fact is some code, asked position by position from the start state. Assumes nothing.
 use mathlib.Core.Path.{_≡_, refl}
 use Prim.Native.Nat.{ℕ, _+_}
-use mathlib.Core.Option.{Option, none, some}
 use mathlib.Core.List.{List, [], _∷_, _++_, map}
 use lib.ListN.{length, getD, replicate}
 use lib.IntN.{ℤ, pos}
-use Rattle.rules.specs.Limits.{recordCount, endCount}
+use Rattle.rules.specs.Limits.{recordCount}
 use Rattle.rules.specs.State.{State, Registers, RecordState, free-record, running, waiting, recordAt, endIn, start, freeEnds}
 use Rattle.rules.specs.Refusal.{Answer, refused, done, numberOf}
 use Rattle.rules.specs.Layout.{noRegisters}

@@ -1,28 +1,27 @@
 -- S1 to S5 as statements (`Sound`) and as a test that computes (`soundTest`) are the same: `sound-of-test` and `test-of-sound`.
 -- On the way: in a sound state every end and record that is named is within the limits. Assumes nothing.
 use mathlib.Core.Path.{_≡_, refl, sym, ap, _∙_, subst}
-use mathlib.Core.Logic.{_≢_}
-use mathlib.Core.Bool.{Bool, true, false, not}
+use mathlib.Core.Bool.{true, not}
 use mathlib.Core.Option.{Option, none, some}
 use mathlib.Core.List.{List, [], _∷_}
-use Prim.Native.Nat.{ℕ, zero, suc, _+_, _≤_, _<_}
-use native.Mathlib.Decide.{ℕ-discrete, decLt}
+use Prim.Native.Nat.{ℕ, _≤_, _<_}
+use native.Mathlib.Decide.{decLt}
 use native.Mathlib.Omega.{arith}
 use lib.ListN.{length, getD, List·getD-eq-default}
 use lib.IntN.{pos}
 use lib.Signed.{mag}
-use lib.Dec.{eqb, ltb, leb}
+use lib.Dec.{eqb, ltb}
 use borrow.Author.Tests.{ltb-true, leb-true, eqb-true, eqb-false, not-true, lt-ltb, le-leb, eq-eqb, ne-eqb}
-use Rattle.rules.specs.Limits.{recordCount, endCount, slotCount, valueBound, handleCount}
+use Rattle.rules.specs.Limits.{recordCount, endCount, valueBound, handleCount}
 use Rattle.rules.specs.State.{State, Value, Datum, value, handle, Last, split-item, close-item, wait-item, EndState, free-end, used, Registers, RecordState, free-record, running, waiting, recordAt, endAt, queueLength, lastOf, partnerOf, slotAt}
-use Rattle.rules.specs.Refusal.{NoCause, noCause}
-use Rattle.rules.specs.Instruction.{Instruction, Decoded, decode}
+use Rattle.rules.specs.Refusal.{noCause}
+use Rattle.rules.specs.Instruction.{Decoded, decode}
 use Rattle.rules.specs.Causes.{ownCauses, names}
-use Rattle.rules.specs.EndStep.{Wait, waitOf, onlyIf}
-use Rattle.rules.specs.Count.{δ, total}
-use Rattle.rules.specs.Sound.{ValueWithin, DatumWithin, RegistersWithin, RecordWithin, EndWithin, Within, Paired, inSlot, heldIn, inLast, carriedBy, givenUp, inUse, placesOf, namedBy, waitsNaming, isWaiting, StandsAt, Sound}
-use Rattle.rules.specs.SoundTest.{all, every, allTrue, valueWithin, datumWithin, slotWithin, registersWithin, recordWithin, lastWithin, endWithin, byteWithin, within, pairedIn, pairedTest, placesTest, waitsTest, standsNamed, standsDecoded, standsIn, standsLast, standsTest, soundTest}
-use Rattle.rules.proofs.CountLaws.{δ-same, δ-ne, δ-eq, total-one, total-zero, weighs-in}
+use Rattle.rules.specs.EndStep.{Wait, waitOf}
+use Rattle.rules.specs.Count.{total}
+use Rattle.rules.specs.Sound.{ValueWithin, DatumWithin, RegistersWithin, RecordWithin, EndWithin, Within, Paired, inSlot, heldIn, inLast, carriedBy, inUse, placesOf, namedBy, waitsNaming, isWaiting, StandsAt, Sound}
+use Rattle.rules.specs.SoundTest.{all, every, valueWithin, datumWithin, slotWithin, registersWithin, recordWithin, lastWithin, endWithin, byteWithin, within, pairedIn, pairedTest, placesTest, waitsTest, standsNamed, standsDecoded, standsIn, standsLast, standsTest, soundTest}
+use Rattle.rules.proofs.CountLaws.{δ-same, δ-ne, total-one, total-zero, weighs-in}
 use Rattle.rules.proofs.TestLaws.{true-is-not-false, both, left-of, right-of, AllTrue, all-true-read, all-true-write, all-at, all-from, every-at, every-from, names-read, names-write, no-cause-read, no-cause-write}
 
 -- ---- from the test: S1

@@ -3,14 +3,13 @@
 use Prim.Native.Nat.{ℕ, _-_}
 use mathlib.Core.Bool.{Bool, true, false}
 use mathlib.Core.Option.{Option, none, some}
-use mathlib.Core.List.{List, [], _∷_}
 use lib.Dec.{ltb}
 use Rattle.rules.specs.Limits.{recordCount}
 use Rattle.rules.specs.State.{State, Registers, RecordState, free-record, running, waiting, recordAt, lowestFreeRecord}
 use Rattle.rules.specs.Refusal.{Answer, refused, done, unless}
 use Rattle.rules.specs.Instruction.{Decoded, decode}
 use Rattle.rules.specs.Causes.{causes}
-use Rattle.rules.specs.RecordStep.{Fresh, lowestFree, after, partnerIn}
+use Rattle.rules.specs.RecordStep.{lowestFree, after, partnerIn}
 use Rattle.rules.specs.EndStep.{endCauses, meeting, afterMeeting}
 
 -- 4 where there is no instruction; then the instruction's own rows, 5 to 15

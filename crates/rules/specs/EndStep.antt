@@ -5,7 +5,7 @@ use mathlib.Core.Bool.{Bool, true, false}
 use mathlib.Core.Option.{Option, none, some}
 use mathlib.Core.List.{List, [], _∷_}
 use lib.ListN.{length, getD}
-use lib.Dec.{leb, ltb, eqb}
+use lib.Dec.{leb, ltb}
 use Rattle.rules.specs.Limits.{endCount}
 use Rattle.rules.specs.State.{State, Datum, value, handle, Last, split-item, close-item, wait-item, Item, datum, last, Registers, registers, RecordState, free-record, running, waiting, free-end, recordAt, endAt, setRecord, setEnd, headOf, behindHead, isFreeEnd}
 use Rattle.rules.specs.Refusal.{Row}

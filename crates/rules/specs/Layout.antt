@@ -1,18 +1,17 @@
 -- The state memory, byte by byte, and its reading back: `layout` writes a state, `view` reads one. Numbers stand low byte first; a number
 -- that may be absent is stored plus one, 0 for none; cells not in use hold zero. docs/STATE.md has the table. Assumes nothing.
-use Prim.Native.Nat.{ℕ, zero, suc, _+_, _-_, _*_, _/_, _%_}
+use Prim.Native.Nat.{ℕ, zero, suc, _+_, _*_, _/_, _%_}
 use mathlib.Core.Bool.{Bool, true, false}
 use mathlib.Core.Option.{Option, none, some}
 use mathlib.Core.List.{List, [], _∷_, _++_, map}
 use lib.ListN.{length, getD, take, drop}
-use lib.Dec.{eqb}
 use lib.IntN.{pos}
 use mir.Syntax.{w32}
 use mir.Val.{toZ, ofZ}
 use Rattle.rules.specs.Limits.{recordCount, endCount, slotCount, stackDepth, environmentDepth, queueDepth, codeLimit}
 use Rattle.rules.specs.Bytes.{bytesOf, numberAt, flat, pad, pieces}
 use Rattle.rules.specs.State.{State, Value, Datum, value, handle, Last, split-item, close-item, wait-item, EndState, free-end, used, Registers, registers, RecordState, free-record, running, waiting, emptySlots, queueLength}
-use Rattle.rules.specs.Slots.{Slots, lowBit}
+use Rattle.rules.specs.Slots.{lowBit}
 
 -- ---- sizes
 

@@ -1,13 +1,12 @@
 -- Document 01, "One run in full": what a step prints, and the whole text of the printing program, in bytes. Assumes nothing.
-use Prim.Native.Nat.{ℕ, zero, suc, _-_}
-use Prim.Native.String.{String}
+use Prim.Native.Nat.{ℕ, suc, _-_}
 use mathlib.Core.Bool.{Bool, true, false}
 use mathlib.Core.Option.{Option, none, some}
 use mathlib.Core.List.{List, [], _∷_, _++_}
 use lib.Dec.{ltb}
 use lib.IntN.{ℤ, pos}
 use Rattle.rules.specs.Limits.{recordCount}
-use Rattle.rules.specs.State.{State, Value, Datum, value, handle, RecordState, free-record, running, waiting, recordAt, start}
+use Rattle.rules.specs.State.{State, value, handle, RecordState, free-record, running, waiting, recordAt, start}
 use Rattle.rules.specs.Refusal.{Answer, refused, done}
 use Rattle.rules.specs.Instruction.{Instruction, cst, access, store, add, mul, leq, put, get, split, fork, plug, close, halt, same, hput, hcase, run, Name, cst-name, access-name, store-name, add-name, mul-name, leq-name, put-name, get-name, split-name, fork-name, plug-name, close-name, halt-name, same-name, hput-name, hcase-name, run-name, Decoded, decode}
 use Rattle.rules.specs.EndStep.{Meeting, mismatch, delivers, divides, closes, meeting}

@@ -4,7 +4,7 @@
 use mathlib.Core.Path.{_≡_}
 use mathlib.Core.Logic.{_≢_}
 use mathlib.Core.Option.{Option, none, some}
-use mathlib.Core.List.{List, [], _∷_}
+use mathlib.Core.List.{List}
 use Prim.Native.Nat.{ℕ, _+_, _≤_, _<_}
 use lib.ListN.{length, getD}
 use lib.IntN.{pos}
@@ -13,9 +13,9 @@ use Rattle.rules.specs.Count.{δ, total}
 use Rattle.rules.specs.Limits.{recordCount, endCount, slotCount, stackDepth, environmentDepth, queueDepth, codeLimit, placeCount, handleCount, valueBound}
 use Rattle.rules.specs.State.{State, Value, Datum, value, handle, Last, split-item, close-item, wait-item, EndState, free-end, used, Registers, RecordState, free-record, running, waiting, recordAt, endAt, queueLength, lastOf, partnerOf, slotAt}
 use Rattle.rules.specs.Refusal.{NoCause}
-use Rattle.rules.specs.Instruction.{Instruction, Decoded, decode}
+use Rattle.rules.specs.Instruction.{Decoded, decode}
 use Rattle.rules.specs.Causes.{ownCauses}
-use Rattle.rules.specs.EndStep.{Wanted, Wait, waitOf}
+use Rattle.rules.specs.EndStep.{Wait, waitOf}
 
 -- ---- S1: every count and number is within the limits
 

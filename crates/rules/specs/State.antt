@@ -1,6 +1,6 @@
 -- Document 01, "The state": process records, ends with their queues, and the code, as lists. Slots, ends and records are named by numbers;
 -- in text a slot is c, d, a, b, an end e, f, p, q and a record r. What makes a state sound is in `Sound`. Assumes nothing.
-use Prim.Native.Nat.{ℕ, zero, suc}
+use Prim.Native.Nat.{ℕ, suc}
 use mathlib.Core.Bool.{Bool, true, false}
 use mathlib.Core.Option.{Option, none, some}
 use mathlib.Core.List.{List, [], _∷_, _++_}
@@ -86,10 +86,6 @@ abbrev pub endIn : Registers → ℕ → ℕ
 endIn g c = endOr endCount (slotAt g c)
 
 -- ---- one queue
-
-abbrev pub lastCount : Option Last → ℕ
-lastCount none = 0
-lastCount (some l) = 1
 
 -- how many items are queued
 abbrev pub queueLength : EndState → ℕ
