@@ -13,7 +13,7 @@ use Rattle.rules.specs.Layout.{cellSize, recordSize, freeSize, recordsAt, freeA
 use Rattle.words.specs.Parts.{putAt}
 use Rattle.words.proofs.Parts.{put-append, put-all}
 use Rattle.words.proofs.Pads.{length-pad}
-use Rattle.memory.specs.Sections.{sectioned, cellsOf, partnersOf, countsOf, allCells}
+use Rattle.memory.specs.Sections.{cellCount, allFreeWord, sectioned, cellsOf, partnersOf, countsOf, allCells}
 use Rattle.memory.proofs.Sections.{behindPartners, behindWord, behindRecords, behindCode, sections, put-code, layout-is, put-word}
 
 -- ---- zeros
@@ -47,7 +47,7 @@ cell-zeros = refl
 
 abbrev nothing : List ℕ
 nothing =
-    sectioned [] (replicate recordCount free-record) 0 (replicate endCount 0) (replicate endCount 0) (replicate 512 0)
+    sectioned [] (replicate recordCount free-record) 0 (replicate endCount 0) (replicate endCount 0) (replicate cellCount 0)
 
 zero-list : (n : ℕ) → replicate n 0 ≡ zeros n
 unfolding pad
@@ -82,20 +82,20 @@ front-zeros q =
     ∙ ap (λ (r : List ℕ). zeros 2 ++ r) (zeros-front codeLimit (all + (freeSize + (endCount + endCount))) q)
     ∙ zeros-front 2 (codeLimit + (all + (freeSize + (endCount + endCount)))) q
 
-cells-zeros : flat (bytesOf cellSize) (replicate 512 0) ≡ zeros (cellSize * 512)
-cells-zeros = flat-zeros (bytesOf cellSize) cellSize 0 cell-zeros 512
+cells-zeros : flat (bytesOf cellSize) (replicate cellCount 0) ≡ zeros (cellSize * cellCount)
+cells-zeros = flat-zeros (bytesOf cellSize) cellSize 0 cell-zeros cellCount
 
-nothing-is : nothing ≡ zeros queuesAt ++ flat (bytesOf cellSize) (replicate 512 0)
+nothing-is : nothing ≡ zeros queuesAt ++ flat (bytesOf cellSize) (replicate cellCount 0)
 unfolding sectioned
-nothing-is = front-zeros (flat (bytesOf cellSize) (replicate 512 0))
+nothing-is = front-zeros (flat (bytesOf cellSize) (replicate cellCount 0))
 
 -- zeros in front and the cells behind fill any memory of the right length
 pub filled : (m : List ℕ) → length m ≡ stateSize
-    → putAt (putAt m 0 (zeros queuesAt)) queuesAt (flat (bytesOf cellSize) (replicate 512 0)) ≡ nothing
+    → putAt (putAt m 0 (zeros queuesAt)) queuesAt (flat (bytesOf cellSize) (replicate cellCount 0)) ≡ nothing
 filled m e =
-    let cells = flat (bytesOf cellSize) (replicate 512 0) in
+    let cells = flat (bytesOf cellSize) (replicate cellCount 0) in
     let front : length (zeros queuesAt) ≡ queuesAt = length-pad {A = ℕ} queuesAt 0 [] in
-    let back : length cells ≡ cellSize * 512 = ap length cells-zeros ∙ length-pad {A = ℕ} (cellSize * 512) 0 [] in
+    let back : length cells ≡ cellSize * cellCount = ap length cells-zeros ∙ length-pad {A = ℕ} (cellSize * cellCount) 0 [] in
     ap (λ (k : ℕ). putAt (putAt m 0 (zeros queuesAt)) k cells) (sym (omega (arith, front)))
     ∙ sym (put-append m 0 (zeros queuesAt) cells)
     ∙ put-all m (zeros queuesAt ++ cells) (omega (arith, length-append (zeros queuesAt) cells, front, back, e))
@@ -106,16 +106,16 @@ filled m e =
 abbrev firstRuns : List RecordState
 firstRuns = set (replicate recordCount free-record) 0 (running (registers 0 [] [] emptySlots))
 
-status-written : set nothing recordsAt 1 ≡ sectioned [] firstRuns 0 (replicate endCount 0) (replicate endCount 0) (replicate 512 0)
+status-written : set nothing recordsAt 1 ≡ sectioned [] firstRuns 0 (replicate endCount 0) (replicate endCount 0) (replicate cellCount 0)
 unfolding behindCode behindRecords behindWord behindPartners flat recordBytes noRegisters
 status-written =
     let none-of : List ℕ = replicate endCount 0 in
-    let cells : List ℕ = replicate 512 0 in
+    let cells : List ℕ = replicate cellCount 0 in
     ap (λ (m : List ℕ). set m recordsAt 1) (sections [] (replicate recordCount free-record) 0 none-of none-of cells)
     ∙ put-code [] (behindCode [] (replicate recordCount free-record) 0 none-of none-of cells) 0 (1 ∷ [])
     ∙ sym (sections [] firstRuns 0 none-of none-of cells)
 
-all-free : freeWord (replicate endCount free-end) ≡ 18446744073709551615
+all-free : freeWord (replicate endCount free-end) ≡ allFreeWord
 unfolding freeWord
 all-free = refl
 
@@ -128,24 +128,24 @@ unfolding countsOf
 nothing-queued = refl
 
 -- every queue is empty: its cells are zero
-pub queues-empty : allCells (replicate endCount free-end) ≡ replicate 512 0
+pub queues-empty : allCells (replicate endCount free-end) ≡ replicate cellCount 0
 unfolding allCells cellsOf flat pad Rattle.rules.specs.Layout.queueCells
 queues-empty = refl
 
-start-is : layout (start []) ≡ sectioned [] firstRuns 18446744073709551615 (replicate endCount 0) (replicate endCount 0) (replicate 512 0)
+start-is : layout (start []) ≡ sectioned [] firstRuns allFreeWord (replicate endCount 0) (replicate endCount 0) (replicate cellCount 0)
 unfolding start
 start-is =
     layout-is (start []) ∙ (λ i. sectioned [] firstRuns (all-free i) (no-partners i) (nothing-queued i) (queues-empty i))
 
 -- the writes of `start`, one after the other
 pub start-written : (m : List ℕ) {m₁ m₂ m₃ m₄ : List ℕ} → length m ≡ stateSize → m₁ ≡ putAt m 0 (zeros queuesAt)
-    → m₂ ≡ putAt m₁ queuesAt (flat (bytesOf cellSize) (replicate 512 0)) → m₃ ≡ set m₂ recordsAt 1
-    → m₄ ≡ putAt m₃ freeAt (bytesOf freeSize 18446744073709551615) → m₄ ≡ layout (start [])
+    → m₂ ≡ putAt m₁ queuesAt (flat (bytesOf cellSize) (replicate cellCount 0)) → m₃ ≡ set m₂ recordsAt 1
+    → m₄ ≡ putAt m₃ freeAt (bytesOf freeSize allFreeWord) → m₄ ≡ layout (start [])
 start-written m e p₁ p₂ p₃ p₄ =
     let none-of : List ℕ = replicate endCount 0 in
-    let cells : List ℕ = replicate 512 0 in
+    let cells : List ℕ = replicate cellCount 0 in
     let at₂ = p₂ ∙ ap (λ (r : List ℕ). putAt r queuesAt (flat (bytesOf cellSize) cells)) p₁ ∙ filled m e in
     let at₃ = p₃ ∙ ap (λ (r : List ℕ). set r recordsAt 1) at₂ ∙ status-written in
-    p₄ ∙ ap (λ (r : List ℕ). putAt r freeAt (bytesOf freeSize 18446744073709551615)) at₃
-    ∙ put-word [] firstRuns 0 none-of none-of cells refl refl refl 18446744073709551615
+    p₄ ∙ ap (λ (r : List ℕ). putAt r freeAt (bytesOf freeSize allFreeWord)) at₃
+    ∙ put-word [] firstRuns 0 none-of none-of cells refl refl refl allFreeWord
     ∙ sym start-is

@@ -9,6 +9,7 @@ ghost use Rattle.rules.specs.Bytes.{bytesOf, numberAt, flat, pad};
 ghost use Rattle.rules.specs.State.{start};
 ghost use Rattle.rules.specs.Layout.{stateSize, cellSize, queuesAt, layout, view};
 ghost use Rattle.words.specs.Parts.{putAt};
+ghost use Rattle.memory.specs.Sections.{cellCount};
 
 // The fixed length of the state memory.
 pub const STATE_SIZE: usize = 16902;
@@ -42,7 +43,7 @@ fn clear(m: &mut [u8], to: usize)
 
 // The cells of all queues, one after the other.
 fn put_cells(m: &mut [u8], cells: &[u64])
-    requires { ⌜ (length (now m) ≡ stateSize) × (length (now cells) ≡ 512) ⌝ }
+    requires { ⌜ (length (now m) ≡ stateSize) × (length (now cells) ≡ cellCount) ⌝ }
     ensures { λ _. ⌜ now (m .exit) ≡ putAt (now (m .entry)) queuesAt (flat (bytesOf cellSize) (now (cells .entry))) ⌝ }
 {
     let mut k = 0;

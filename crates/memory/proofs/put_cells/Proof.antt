@@ -8,6 +8,7 @@ use lib.Seq.{take-all}
 use borrow.Author.Needs.{needs}
 use Rattle.rules.specs.Bytes.{bytesOf, flat}
 use Rattle.rules.specs.Layout.{cellSize, queuesAt}
+use Rattle.memory.specs.Sections.{cellCount}
 use Rattle.words.specs.Parts.{putAt}
 use Rattle.words.proofs.Numbers.{length-bytes}
 use Rattle.words.proofs.Pieces.{put-more}
@@ -15,10 +16,10 @@ use Rattle.memory.proofs.put_cells.Statement.{statement}
 use Rattle.memory.proofs.put_cells.Tie as tie
 
 abbrev Inv-loop : tie.InvT-loop
-Inv-loop m₀ cells k₀ m k = (k ≤ 512) × (length m ≡ length m₀) × (m ≡ putAt m₀ queuesAt (flat (bytesOf cellSize) (take k cells)))
+Inv-loop m₀ cells k₀ m k = (k ≤ cellCount) × (length m ≡ length m₀) × (m ≡ putAt m₀ queuesAt (flat (bytesOf cellSize) (take k cells)))
 
 abbrev μ-loop : tie.MeasureT-loop
-μ-loop m₀ cells k₀ m k = 512 - k
+μ-loop m₀ cells k₀ m k = cellCount - k
 
 -- one cell more
 next-cell : (m₀ : List ℕ) (cells : List ℕ) (k : ℕ) {m m′ : List ℕ} → k < length cells → m ≡ putAt m₀ queuesAt (flat (bytesOf cellSize) (take k cells))
