@@ -18,7 +18,7 @@ use Rattle.rules.specs.Instruction.{Instruction, cst, access, store, add, mul, 
 use Rattle.rules.specs.Causes.{stackFull, noFreeRecord, ownCauses, sharedCauses}
 use Rattle.rules.specs.RecordStep.{lowestFree, branch, partnerIn}
 use Rattle.rules.specs.EndStep.{Wanted, a-value, a-handle, a-split, Wait, waitOf, Waiter, waiterIn, Meeting, mismatch, delivers, handleChosen, meetDatum, meetSplit, datumAgainst, splitAgainst, meetHeads, meeting, isMismatch, isDivision, onlyIf, endCauses, afterMeeting}
-use Rattle.rules.specs.Ask.{askDecoded, askIn, askRecord, askEnd, pickAnswer, ask}
+use Rattle.rules.specs.Ask.{answerTo, askDecoded, askIn, askRecord, askEnd, pickAnswer, ask}
 use Rattle.rules.specs.Slots.{over, emptied}
 use Rattle.rules.specs.Count.{δ, total}
 use Rattle.rules.specs.Sound.{ValueWithin, DatumWithin, EndWithin, RecordWithin, RegistersWithin, inSlot, Sound}
@@ -65,7 +65,7 @@ no-cause-right (x ∷ xs) ys h = no-cause-right xs ys (h .1)
 -- ---- a record
 
 pub record-move : (st : State) → Sound st → (r : ℕ) (st′ : State) → askRecord st r ≡ done st′ → Move st st′ (recordEvents st r)
-unfolding askRecord recordEvents
+unfolding askRecord answerTo recordEvents
 record-move st s r st′ h = asked (recordAt st r) refl h
   where
     decoded : (g : Registers) → recordAt st r ≡ running g → (x : Option Decoded) → decode (st .code) (g .place) ≡ x → askDecoded st r g x

@@ -7,15 +7,19 @@ use lib.Dec.{ltb}
 use Rattle.rules.specs.Limits.{recordCount}
 use Rattle.rules.specs.State.{State, Registers, RecordState, free-record, running, waiting, recordAt, lowestFreeRecord}
 use Rattle.rules.specs.Refusal.{Answer, refused, done, unless}
-use Rattle.rules.specs.Instruction.{Decoded, decode}
+use Rattle.rules.specs.Instruction.{Instruction, Decoded, decode}
 use Rattle.rules.specs.Causes.{causes}
 use Rattle.rules.specs.RecordStep.{lowestFree, after, partnerIn}
 use Rattle.rules.specs.EndStep.{endCauses, meeting, afterMeeting}
 
--- 4 where there is no instruction; then the instruction's own rows, 5 to 15
+-- an instruction of record r with registers g, `next` the place after it: its own rows, 5 to 15, or the state after it
+unfoldable pub answerTo : State → (r next : ℕ) → Registers → Instruction → Answer State
+answerTo st r next g i = unless (causes st g i) (done (after st r next g (lowestFree st) i))
+
+-- 4 where there is no instruction
 abbrev pub askDecoded : State → ℕ → Registers → Option Decoded → Answer State
 askDecoded st r g none = refused 4
-askDecoded st r g (some d) = unless (causes st g (d .instruction)) (done (after st r (d .next) g (lowestFree st) (d .instruction)))
+askDecoded st r g (some d) = answerTo st r (d .next) g (d .instruction)
 
 -- 2: record number over the last one's, or record free; 3: record waiting
 abbrev pub askIn : State → ℕ → RecordState → Answer State
