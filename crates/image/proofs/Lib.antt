@@ -1,0 +1,5 @@
+pub mod Rows
+pub mod Checks
+pub mod Zeros
+pub mod Data
+pub mod Causes
