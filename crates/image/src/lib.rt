@@ -2,11 +2,14 @@
 // which number is defined in `rules` (specs/Image.antt); what the reader's answer stands for in specs/Found.antt.
 mod block;
 mod reading;
+mod writing;
 
 ghost use mathlib.Core.Path.{_≡_};
 ghost use Prim.Native.Nat.{_+_, _≤_, min};
 ghost use lib.ListN.{length};
 ghost use Rattle.rules.specs.Refusal.{done};
+ghost use Rattle.rules.specs.Numbers.{replyNumber};
+ghost use Rattle.rules.specs.Calls.{write};
 ghost use Rattle.rules.specs.Image.{readImage, codeLength, codeIn};
 ghost use Rattle.words.specs.Parts.{putAt};
 ghost use Rattle.image.specs.Found.{foundAnswer, lengthRead};
@@ -15,7 +18,11 @@ use block::BLOCK_SIZE;
 use block::DATA_SIZE;
 use block::HEAD_SIZE;
 use rules::BLOCK_CHECK;
+use rules::CODE_LENGTH;
+use rules::CODE_LIMIT;
 use rules::IMAGE_LENGTH;
+use rules::OUTPUT_SHORT;
+use rules::Reply;
 
 // What the reader finds.
 pub enum Found {
@@ -23,6 +30,26 @@ pub enum Found {
     Code { length: usize },
     // One of document 01's numbers.
     Refused(u8),
+}
+
+// The image of a code goes to the front of `out`: done, or 26, 27 with `out` as it was. What stands past the blocks is kept.
+pub fn write(code: &[u8], out: &mut [u8]) -> Reply
+    ensures number { λ r. ⌜ replyNumber r ≡ write (now (code .entry)) (now (out .entry)) .number ⌝ }
+    ensures memory { λ _. ⌜ now (out .exit) ≡ write (now (code .entry)) (now (out .entry)) .memory ⌝ }
+{
+    let length = code.len();
+    if length == 0 {
+        return Reply::Refused(CODE_LENGTH);
+    }
+    if CODE_LIMIT < length {
+        return Reply::Refused(CODE_LENGTH);
+    }
+    let count = block::block_count(length);
+    if out.len() < BLOCK_SIZE * count {
+        return Reply::Refused(OUTPUT_SHORT);
+    }
+    writing::write_blocks(code, out, count);
+    Reply::Done
 }
 
 // Where the code of an image stands and how long it is, or 20, 21, 22, 23, in that order.

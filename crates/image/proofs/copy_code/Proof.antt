@@ -1,3 +1,16 @@
+-- `copy_code` copies one run of the code for each block. The invariant: data up to p is copied, which for i blocks is all of theirs, but not
+-- the head and not past the code. Assumes nothing.
+use mathlib.Core.Path.{_≡_, refl, sym, ap, _∙_}
+use Prim.Native.Nat.{ℕ, _+_, _-_, _*_, _≤_, _<_, min, max}
+use native.Mathlib.Omega.{arith}
+use lib.ListN.{length, take, length-take}
+use lib.Seq.{take-all}
+use borrow.Author.Needs.{needs}
+use Rattle.words.specs.Parts.{putAt}
+use Rattle.rules.specs.Image.{dataSize, headSize, blocksIn, codeLength, codeIn}
+use Rattle.image.proofs.Right.{Right, right-of}
+use Rattle.image.proofs.Data.{length-is, code-size}
+use Rattle.image.proofs.Copies.{ends, Run, run-is, next-run}
 use Rattle.image.proofs.copy_code.Statement.{statement}
 use Rattle.image.proofs.copy_code.Tie as tie
 use Rattle.image.proofs.copy_code.Reads as reads
@@ -7,94 +20,133 @@ use Rattle.image.proofs.reading.code_length.Reads as code-length-reads
 use Rattle.words.proofs.copy.Reads as copy-reads
 
 abbrev Inv-loop : tie.InvT-loop
-Inv-loop image out₀ at count end p₀ i₀ out p i = ?
+Inv-loop image out₀ at count end p₀ i₀ out p i =
+    (i ≤ count) × (p ≡ max headSize (min (dataSize * i) end)) × (length out ≡ length out₀)
+    × (out ≡ putAt out₀ at (take (p - headSize) (codeIn image)))
 
 abbrev μ-loop : tie.MeasureT-loop
-μ-loop image out₀ at count end p₀ i₀ out p i = ?
+μ-loop image out₀ at count end p₀ i₀ out p i = count - i
 
--- src/lib.rt:65:27
+-- ---- what is known on the way
+
+right : (s : tie.Start Inv-loop μ-loop) → Right (s .args .image .now)
+right s = right-of (s .args .image .now) (codeIn (s .args .image .now)) (s .pre .0) .0
+
+-- the length that the image states
+stated : (c : tie.After-code-length Inv-loop μ-loop) → c .code-length .result ≡ codeLength (c .before .before .before .args .image .now)
+stated c =
+    let image = c .before .before .before .args .image .now in
+    let r = right (c .before .before .before) in
+    c .code-length .ensures ∙ sym (length-is (blocksIn image) image (r .size) (r .some))
+
+-- the run of block i
+run : (c : tie.After-least Inv-loop μ-loop)
+    → Run (c .before .before .before .code-length .result) (c .before .before .loop .i) (c .before .before .loop .p) (c .least .result)
+run c =
+    let at-loop = c .before .before in
+    let at-length = at-loop .before in
+    let image = at-length .before .before .before .args .image .now in
+    let L = at-length .code-length .result in
+    let e = ends image (right (at-length .before .before .before)) .0 in
+    run-is (blocksIn image) L (at-loop .loop .i) (at-loop .loop .p) (c .least .result) (c .before .loop-test .taken) (rw (stated at-length) e)
+    (at-loop .loop .inv .1) (c .least .ensures)
+
+-- ---- the needs
+
 code-length-requires : tie.Need-code-length-requires Inv-loop μ-loop
-code-length-requires c κs = ?
+code-length-requires c κs = let r = right (c .before .before) in let some = r .some in omega arith
 
--- src/lib.rt:65:15
 add-end : tie.Need-add-end Inv-loop μ-loop
-add-end c = ?
+add-end c = let short = right (c .before .before .before) .short in let e = stated c in omega arith
 
--- src/lib.rt:68:5
 loop-holds : tie.Need-loop-holds Inv-loop μ-loop
-loop-holds c = ?
+loop-holds c = (omega arith, omega arith, refl, refl)
 
--- src/lib.rt:69:39
 add-least : tie.Need-add-least Inv-loop μ-loop
-add-least c = ?
+add-least c = search needs
 
--- src/lib.rt:69:26
 mul-least : tie.Need-mul-least Inv-loop μ-loop
-mul-least c = ?
+mul-least c = search needs
 
--- src/lib.rt:69:13
 least-requires : tie.Need-least-requires Inv-loop μ-loop
-least-requires c κs = ?
+least-requires c κs = search needs
 
--- src/lib.rt:70:32
 mul-copy : tie.Need-mul-copy Inv-loop μ-loop
-mul-copy c = ?
+mul-copy c = search needs
 
--- src/lib.rt:70:28
 add-copy : tie.Need-add-copy Inv-loop μ-loop
-add-copy c = ?
+add-copy c = search needs
 
--- src/lib.rt:70:46
 mul-copy-2 : tie.Need-mul-copy-2 Inv-loop μ-loop
-mul-copy-2 c = ?
+mul-copy-2 c = search needs
 
--- src/lib.rt:70:39
 add-copy-2 : tie.Need-add-copy-2 Inv-loop μ-loop
-add-copy-2 c = ?
+add-copy-2 c = search needs
 
--- src/lib.rt:70:21
 sub-copy : tie.Need-sub-copy Inv-loop μ-loop
-sub-copy c = ?
+sub-copy c = let k = run c in omega arith
 
--- src/lib.rt:70:21
 part-copy-start : tie.Need-part-copy-start Inv-loop μ-loop
-part-copy-start c = ?
+part-copy-start c = let k = run c in omega arith
 
--- src/lib.rt:70:21
 part-copy-end : tie.Need-part-copy-end Inv-loop μ-loop
-part-copy-end c = ?
+part-copy-end c = let k = run c in omega arith
 
--- src/lib.rt:70:65
 sub-copy-2 : tie.Need-sub-copy-2 Inv-loop μ-loop
-sub-copy-2 c = ?
+sub-copy-2 c = let k = run (c .before .before) in k .head
 
--- src/lib.rt:70:59
 add-copy-3 : tie.Need-add-copy-3 Inv-loop μ-loop
-add-copy-3 c = ?
+add-copy-3 c =
+    let at-length = c .before .before .before .before .before in
+    let e = stated at-length in
+    let fits = at-length .before .before .before .pre .1 in
+    let k = run (c .before .before) in
+    omega arith
 
--- src/lib.rt:70:9
 copy-requires : tie.Need-copy-requires Inv-loop μ-loop
-copy-requires c κs = ?
+copy-requires c κs =
+    let at-length = c .before .before .before .before .before in
+    let e = stated at-length in
+    let fits = at-length .before .before .before .pre .1 in
+    let k = run (c .before .before) in
+    let size = c .before .before .before .before .loop .inv .2 in
+    simp length-take (omega arith)
 
--- src/lib.rt:72:9
 add-i : tie.Need-add-i Inv-loop μ-loop
-add-i c = ?
+add-i c = search needs
 
--- src/lib.rt:68:5
 loop-less : tie.Need-loop-less Inv-loop μ-loop
-loop-less c = ?
+loop-less c = search needs
 
--- src/lib.rt:68:5
 loop-again : tie.Need-loop-again Inv-loop μ-loop
-loop-again c = ?
+loop-again c =
+    let at-copy = c .before .before in
+    let at-least = at-copy .before .before .before in
+    let at-loop = at-least .before .before in
+    let s = at-loop .before .before .before .before in
+    let a = s .args in
+    let l = at-loop .loop in
+    let q = at-least .least .result in
+    let k = run at-least in
+    let here = next-run (a .image .now) (right s) (a .out .now) (a .at) (l .i) (l .p) q (at-least .before .loop-test .taken) (rw (stated (at-loop .before)) at k)
+    (l .inv .3) (at-copy .copy .ensures) in
+    (omega arith, omega arith, omega arith, here)
 
--- src/lib.rt:59:1
 same-length : tie.Need-same-length Inv-loop μ-loop
-same-length c = ?
+same-length c = search needs
 
--- src/lib.rt:59:1
 returns : tie.Need-returns Inv-loop μ-loop
-returns c = ?
+returns c =
+    let at-loop = c .before in
+    let at-length = at-loop .before in
+    let s = at-length .before .before .before in
+    let image = s .args .image .now in
+    let r = right s in
+    let e = stated at-length in
+    let end = ends image r .1 in
+    let size = code-size (blocksIn image) image (r .size) (r .some) end in
+    let all : length (codeIn image) ≤ at-loop .loop .p - headSize = rw size (omega arith) in
+    at-loop .loop .inv .3 ∙ rw (take-all (at-loop .loop .p - headSize) (codeIn image) all)
 
 pub copy-code-spec : {M : Type 1} → statement M
 copy-code-spec =
