@@ -49,11 +49,24 @@ right-in m =
       getD-take blockSize m (dataSize + 1) 0 (omega arith),
     )
 
-right-one : (m : List ℕ) (n : ℕ) → isRight m ≡ true → anyCheckWrong (suc n) m ≡ anyCheckWrong n (drop blockSize m)
+-- the first block is right, n more are to be looked at; or it is wrong
+pub right-one : (m : List ℕ) (n : ℕ) → isRight m ≡ true → anyCheckWrong (suc n) m ≡ anyCheckWrong n (drop blockSize m)
 unfolding anyCheckWrong
 right-one m n e = rw (e, anyCheckWrong)
 
--- block i is right, n more are to be looked at; or it is wrong
+pub wrong-one : (m : List ℕ) (n : ℕ) → isRight m ≡ false → anyCheckWrong (suc n) m ≡ true
+unfolding anyCheckWrong
+wrong-one m n e = rw (e, anyCheckWrong)
+
+-- no block is wrong: neither the first nor one behind it
+pub right-all : (m : List ℕ) (n : ℕ) → anyCheckWrong (suc n) m ≡ false → (isRight m ≡ true) × (anyCheckWrong n (drop blockSize m) ≡ false)
+right-all m n e = go (isRight m) refl
+  where
+    go : (b : Bool) → isRight m ≡ b → (isRight m ≡ true) × (anyCheckWrong n (drop blockSize m) ≡ false)
+    go true t = (t, sym (right-one m n t) ∙ e)
+    go false f = absurd (let z : _≡_ {A = ℕ} 0 1 = cc (wrong-one m n f) in omega arith)
+
+-- the same of block i, in a loop
 pub checks-next : (image : List ℕ) (i n : ℕ) → isRight (take blockSize (drop (blockSize * i) image)) ≡ true
     → anyCheckWrong (suc n) (drop (blockSize * i) image) ≡ anyCheckWrong n (drop (blockSize * (i + 1)) image)
 checks-next image i n e =
@@ -62,8 +75,7 @@ checks-next image i n e =
     right-one m n (sym (right-in m) ∙ e) ∙ rw (drop-drop blockSize (blockSize * i) image, d)
 
 pub checks-stop : (m : List ℕ) (n : ℕ) → isRight (take blockSize m) ≡ false → anyCheckWrong (suc n) m ≡ true
-unfolding anyCheckWrong
-checks-stop m n e = rw (sym (right-in m) ∙ e, anyCheckWrong)
+checks-stop m n e = wrong-one m n (sym (right-in m) ∙ e)
 
 pub checks-end : (m : List ℕ) → anyCheckWrong 0 m ≡ false
 unfolding anyCheckWrong

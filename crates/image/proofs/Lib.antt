@@ -6,3 +6,5 @@ pub mod Causes
 pub mod Right
 pub mod Copies
 pub mod Writes
+pub mod Blocks
+pub mod RoundTrip
