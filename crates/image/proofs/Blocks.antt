@@ -1,13 +1,13 @@
--- Data in blocks and back: the data of written blocks is the data, their checks are right, and the blocks of an image whose checks are right
--- are that image. Assumes nothing.
+-- Data in blocks and back: the data of written blocks is the data and their checks are right; an image whose checks are right is the blocks
+-- of its data. Assumes nothing.
 use mathlib.Core.Path.{_≡_, refl, sym, ap, _∙_}
-use mathlib.Core.Bool.{Bool, true, false}
+use mathlib.Core.Bool.{true, false}
 use mathlib.Core.List.{List, [], _∷_, _++_, append-assoc}
 use Prim.Native.Nat.{ℕ, zero, suc, _+_, _*_, _/_, _%_, _≤_, _<_}
 use native.Mathlib.Omega.{arith}
 use borrow.Author.Tests.{eq-eqb, eqb-true}
-use lib.ListN.{length, getD, take, drop, length-append, length-drop, take-append-drop}
-use lib.Seq.{length-take-le, take-at, drop-at, take-append-le, getD-append-add, take-add, drop-cons, getD-drop}
+use lib.ListN.{length, getD, take, drop, length-drop, take-append-drop}
+use lib.Seq.{length-take-le, take-at, drop-at, getD-append-add, take-add, drop-cons, getD-drop}
 use Rattle.words.specs.Parts.{highAt, Bytes}
 use Rattle.rules.specs.Image.{blockSize, dataSize, checkOf, block, blocks, anyCheckWrong, dataIn}
 use Rattle.image.proofs.Checks.{isRight, right-one, right-all}
@@ -29,7 +29,7 @@ module _ (bytes rest : List ℕ) (size : length bytes ≡ dataSize) where
       let c : ℕ = checkOf bytes in
       let two : List ℕ = (c / 256 ∷ c % 256 ∷ []) ++ rest in
       let at : (k : ℕ) → getD (bytes ++ two) (dataSize + k) 0 ≡ getD two k 0
-          = λ k. ap (λ (n : ℕ). getD (bytes ++ two) (n + k) 0) (sym size) ∙ getD-append-add bytes two k 0 in
+      = λ k. ap (λ (n : ℕ). getD (bytes ++ two) (n + k) 0) (sym size) ∙ getD-append-add bytes two k 0 in
       let h : getD (bytes ++ two) dataSize 0 ≡ c / 256 = at 0 in
       let l : getD (bytes ++ two) (dataSize + 1) 0 ≡ c % 256 = at 1 in
       rw append-assoc (omega (arith, h, l))
@@ -72,7 +72,7 @@ block-same m byte h e =
     let q : checkOf (take dataSize m) / 256 ≡ getD m dataSize 0 = omega arith in
     let r : checkOf (take dataSize m) % 256 ≡ getD m (dataSize + 1) 0 = omega arith in
     let two : take 2 (drop dataSize m) ≡ getD m dataSize 0 ∷ getD m (dataSize + 1) 0 ∷ []
-        = rw (drop-cons m dataSize 0 (omega arith), drop-cons m (dataSize + 1) 0 (omega arith)) in
+    = rw (drop-cons m dataSize 0 (omega arith), drop-cons m (dataSize + 1) 0 (omega arith)) in
     rw (q, r, take-add dataSize 2 m, two)
 
 bytes-drop : (n : ℕ) (m : List ℕ) → Bytes m → Bytes (drop n m)
@@ -88,6 +88,10 @@ blocks-data (suc n) image byte h e =
     let size : length (take dataSize image) ≡ dataSize = length-take-le dataSize image (omega arith) in
     let rest : List ℕ = drop blockSize image in
     let more : blockSize * n ≡ length rest = rw length-drop (omega arith) in
-    rw (take-at (take dataSize image) (dataIn n rest) dataSize size, drop-at (take dataSize image) (dataIn n rest) dataSize size,
-    block-same image byte (omega arith) (right .0), blocks-data n rest (bytes-drop blockSize image byte) more (right .1))
+    rw (
+      take-at (take dataSize image) (dataIn n rest) dataSize size,
+      drop-at (take dataSize image) (dataIn n rest) dataSize size,
+      block-same image byte (omega arith) (right .0),
+      blocks-data n rest (bytes-drop blockSize image byte) more (right .1),
+    )
     (take-append-drop blockSize image)

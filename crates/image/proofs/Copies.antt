@@ -1,13 +1,13 @@
 -- A turn of the loop that copies the code of an image: the run of the next block. Assumes nothing.
-use mathlib.Core.Path.{_≡_, refl, sym, ap, _∙_}
-use mathlib.Core.List.{List, _++_}
+use mathlib.Core.Path.{_≡_, sym, ap, _∙_}
+use mathlib.Core.List.{List}
 use Prim.Native.Nat.{ℕ, _+_, _-_, _*_, _≤_, _<_, min, max}
 use native.Mathlib.Omega.{arith}
 use lib.ListN.{length, take, drop}
 use lib.Seq.{take-add, length-take-le}
 use Rattle.words.specs.Parts.{putAt}
 use Rattle.words.proofs.Parts.{put-append}
-use Rattle.rules.specs.Image.{blockSize, dataSize, headSize, blocksIn, codeLength, codeIn}
+use Rattle.rules.specs.Image.{dataSize, headSize, blocksIn, codeLength, codeIn}
 use Rattle.image.proofs.Data.{code-size, code-part}
 use Rattle.image.proofs.Causes.{last-block}
 use Rattle.image.proofs.Right.{Right}

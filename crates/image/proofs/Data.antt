@@ -1,14 +1,15 @@
--- Where the data of an image stands: within a block it goes on byte by byte, and two bytes further behind for each block before. So the head,
--- the code and the padding are parts of the image. Assumes nothing.
+-- Where the data of an image stands: in a block byte by byte, two bytes further behind for each block before. So the head, the code and the
+-- padding are parts of the image. Assumes nothing.
 use mathlib.Core.Path.{_≡_, refl, sym, ap, _∙_}
-use mathlib.Core.List.{List, [], _∷_, _++_}
-use Prim.Native.Nat.{ℕ, zero, suc, _+_, _-_, _*_, _/_, _≤_, _<_}
-use native.Mathlib.Nat.{add-zero, zero-add, add-assoc}
+use mathlib.Core.List.{List, _++_}
+use Prim.Native.Nat.{ℕ, zero, suc, _+_, _-_, _*_, _≤_, _<_}
+use native.Mathlib.Nat.{add-zero}
 use native.Mathlib.Omega.{arith}
 use lib.ListN.{length, getD, take, drop, length-append, length-drop}
-use lib.Seq.{length-take-le, take-take, take-add, take-append-le, drop-append-le, drop-append-add, drop-drop, drop-at, getD-take, getD-drop, take-all}
+use lib.Seq.{length-take-le, take-take, take-add, take-append-le, drop-append-le, drop-append-add}
+use lib.Seq.{drop-drop, drop-at, getD-take, getD-drop, take-all}
 use Rattle.words.specs.Parts.{highAt}
-use Rattle.rules.specs.Image.{blockSize, dataSize, headSize, blocksIn, dataIn, imageData, codeLength, codeIn, blockCount}
+use Rattle.rules.specs.Image.{blockSize, dataSize, headSize, blocksIn, dataIn, imageData, codeLength, codeIn}
 
 -- a part of the front
 drop-take : (n k : ℕ) (m : List ℕ) → k ≤ n → n ≤ length m → drop k (take n m) ≡ take (n - k) (drop k m)

@@ -4,6 +4,7 @@ pub mod Zeros
 pub mod Data
 pub mod Causes
 pub mod Right
+pub mod Answers
 pub mod Copies
 pub mod Writes
 pub mod Blocks

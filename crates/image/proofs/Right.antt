@@ -1,5 +1,5 @@
 -- An image that reads is right in every row, and one that is right in every row reads. Assumes nothing.
-use mathlib.Core.Path.{_≡_, sym, ap, _∙_}
+use mathlib.Core.Path.{_≡_}
 use mathlib.Core.Bool.{false, not}
 use mathlib.Core.List.{List}
 use Prim.Native.Nat.{ℕ, _+_, _*_, _≤_, _<_}
@@ -9,7 +9,8 @@ use lib.ListN.{length, getD, drop}
 use lib.Dec.{eqb}
 use Rattle.rules.specs.Limits.{codeLimit}
 use Rattle.rules.specs.Refusal.{done, unless}
-use Rattle.rules.specs.Image.{blockSize, headSize, blockLimit, blocksIn, blockCount, imageData, codeLength, codeIn, anyCheckWrong, anyNonzero, readCauses, readImage}
+use Rattle.rules.specs.Image.{blockSize, headSize, blockLimit, blocksIn, blockCount, imageData, codeLength}
+use Rattle.rules.specs.Image.{codeIn, anyCheckWrong, anyNonzero, readCauses, readImage}
 use Rattle.image.proofs.Rows.{all-passed}
 
 pub record Right (image : List ℕ) : Type 0 where

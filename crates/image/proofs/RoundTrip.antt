@@ -1,9 +1,9 @@
--- The code's round trips, over the definitions of `rules` that the contracts of `write`, `read` and `copy_code` name: reading what was written
--- finds the code, and writing the code of an image that reads gives the same blocks. Assumes nothing.
+-- The code's round trips, over the definitions of `rules` that the contracts of `write`, `read` and `copy_code` name: reading what was
+-- written finds the code, and writing the code of an image that reads gives the same blocks. Assumes nothing.
 use mathlib.Core.Path.{_≡_, refl, sym, ap, _∙_}
 use mathlib.Core.Bool.{Bool, true, false}
-use mathlib.Core.List.{List, [], _∷_, _++_}
-use Prim.Native.Nat.{ℕ, zero, suc, _+_, _-_, _*_, _/_, _%_, _≤_, _<_}
+use mathlib.Core.List.{List, [], _++_}
+use Prim.Native.Nat.{ℕ, zero, suc, _+_, _-_, _*_, _≤_, _<_}
 use native.Mathlib.Decide.{decLt}
 use native.Mathlib.Omega.{arith}
 use lib.ListN.{length, getD, take, drop, drop-of-length-le, List·getD-eq-default}
@@ -16,13 +16,14 @@ use Rattle.rules.specs.Limits.{codeLimit}
 use Rattle.rules.specs.Bytes.{pad}
 use Rattle.rules.specs.Refusal.{done, refuseIf, unless, numberOf}
 use Rattle.rules.specs.Calls.{write, writeAnswer}
-use Rattle.rules.specs.Image.{blockSize, dataSize, headSize, blocks, blockCount, blocksIn, headed, imageOf, imageData, codeLength, codeIn, anyNonzero, readImage, writeCauses, written}
+use Rattle.rules.specs.Image.{blockSize, dataSize, headSize, blocks, blockCount, blocksIn, headed, imageOf}
+use Rattle.rules.specs.Image.{imageData, codeLength, codeIn, anyNonzero, readImage, writeCauses, written}
 use Rattle.image.proofs.Rows.{all-passed}
 use Rattle.image.proofs.Zeros.{zeros-pad, zero-at}
 use Rattle.image.proofs.Data.{blocks-are, data-is, data-byte, data-size, code-size}
 use Rattle.image.proofs.Causes.{last-block}
 use Rattle.image.proofs.Right.{Right, right-of, reads}
-use Rattle.image.proofs.Writes.{behind-head, length-blocks, few-blocks}
+use Rattle.image.proofs.Writes.{length-blocks, few-blocks}
 use Rattle.image.proofs.Blocks.{data-blocks, checks-blocks, blocks-data}
 
 -- the data of a code: head, code, zeros
@@ -124,8 +125,8 @@ module _ (image : List ℕ) (right : Right image) (byte : Bytes image) where
           let k : ℕ = j - codeLength image in
           let e : headSize + codeLength image + k ≡ headSize + j = omega arith in
           let zero = zero-at (drop (headSize + codeLength image) (imageData image)) k (right .zeros) in
-          List·getD-eq-default (codeIn image) 0 past
-          ∙ sym (ap (λ (i : ℕ). getD (imageData image) i 0) (sym e) ∙ sym (getD-drop (headSize + codeLength image) (imageData image) k 0) ∙ zero)
+          let there = sym (getD-drop (headSize + codeLength image) (imageData image) k 0) ∙ zero in
+          List·getD-eq-default (codeIn image) 0 past ∙ sym (ap (λ (i : ℕ). getD (imageData image) i 0) (sym e) ∙ there)
 
   -- the two bytes of the length are determined by it
   low : getD (imageData image) 3 0 < 256
@@ -146,7 +147,7 @@ module _ (image : List ℕ) (right : Right image) (byte : Bytes image) where
       let n : ℕ = dataSize * blockCount (length (codeIn image)) in
       let size = length-pad n 0 (headed (codeIn image)) in
       let same : n ≡ length (imageData image)
-          = rw read-count (sym (data-size (blocksIn image) image (right .size) (right .some))) in
+      = rw read-count (sym (data-size (blocksIn image) image (right .size) (right .some))) in
       ext-getD 0 (dataOf (codeIn image)) (imageData image) (size ∙ same)
       (λ i h. getD-pad n 0 (headed (codeIn image)) i (rw size at h) ∙ read-byte i)
 
@@ -203,5 +204,10 @@ write-after-read image code out e byte h =
     let all : blockSize * blockCount (length code) ≡ length image = rw count (right .size) in
     let long = right .long in
     let short = right .short in
-    rw (ne-eqb (length code) 0 (λ z. omega arith), le-ltb codeLimit (length code) (omega arith),
-    le-ltb (length out) (blockSize * blockCount (length code)) (rw all h), written-read image code e byte, all)
+    rw (
+      ne-eqb (length code) 0 (λ z. omega arith),
+      le-ltb codeLimit (length code) (omega arith),
+      le-ltb (length out) (blockSize * blockCount (length code)) (rw all h),
+      written-read image code e byte,
+      all,
+    )

@@ -1,13 +1,12 @@
 -- Laws of refusals in order, for code that tests one row after the other: a row that does not hold is passed, the first that holds decides,
 -- and an answer that is done has passed them all. Assumes nothing.
-use mathlib.Core.Path.{_≡_, refl, ap, _∙_}
-use mathlib.Core.Bool.{Bool, true, false}
+use mathlib.Core.Path.{_≡_, refl, _∙_}
+use mathlib.Core.Bool.{true, false}
 use mathlib.Core.List.{List, [], _∷_}
-use Prim.Native.Nat.{ℕ, zero, suc, _+_}
-use native.Mathlib.Numerals.{add-one}
+use Prim.Native.Nat.{ℕ, zero, suc}
 use native.Mathlib.Omega.{arith}
 use lib.ListN.{getD, drop}
-use Rattle.rules.specs.Refusal.{Answer, refused, done, Row, refuseIf, unless, NoCause}
+use Rattle.rules.specs.Refusal.{Answer, refused, done, Row, unless, NoCause}
 
 -- row k
 abbrev pub rowAt : List Row → ℕ → Row

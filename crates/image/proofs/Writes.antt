@@ -14,7 +14,10 @@ use Rattle.rules.specs.Bytes.{table, pad}
 use Rattle.rules.specs.Limits.{codeLimit}
 use Rattle.rules.specs.Refusal.{refused, done, unless}
 use Rattle.rules.specs.Calls.{write, writeAnswer}
-use Rattle.rules.specs.Image.{blockSize, dataSize, headSize, blockLimit, checkOf, headed, block, blocks, blockCount, imageOf, writeCauses, written}
+use Rattle.rules.specs.declared.Reply.the-variants.{Done, Refused}
+use Rattle.image.specs.Answers.{replyTo}
+use Rattle.rules.specs.Image.{blockSize, dataSize, headSize, blockLimit, checkOf, headed, block}
+use Rattle.rules.specs.Image.{blocks, blockCount, imageOf, writeCauses, written}
 use Rattle.image.proofs.Rows.{Passed}
 
 -- ---- the data
@@ -120,13 +123,14 @@ unfolding blockCount
 few-blocks L h = omega arith
 
 module _ (code out : List ℕ) where
-  pub write-refused : {n : ℕ} → writeAnswer code out ≡ refused n → (n ≡ write code out .number) × (out ≡ write code out .memory)
+  pub write-refused : {n : ℕ} → writeAnswer code out ≡ refused n
+      → (n ≡ write code out .number) × ((out ≡ write code out .memory) × (Refused n ≡ replyTo (writeAnswer code out)))
   unfolding write
-  write-refused e = (rw e, rw e)
+  write-refused e = (rw e, (rw e, rw e))
 
   -- with the blocks as the code counts and writes them
   pub write-done : {n : ℕ} {m : List ℕ} → Passed (writeCauses code out) (done (written code out)) 3 → n ≡ blockCount (length code)
       → m ≡ blocks n (pad (dataSize * n) 0 (headed code)) ++ drop (blockSize * n) out
-      → (0 ≡ write code out .number) × (m ≡ write code out .memory)
+      → (0 ≡ write code out .number) × ((m ≡ write code out .memory) × (Done ≡ replyTo (writeAnswer code out)))
   unfolding write writeAnswer writeCauses written imageOf unless
-  write-done p c e = (rw (p .left), rw (p .left) (e ∙ rw c))
+  write-done p c e = (rw (p .left), (rw (p .left) (e ∙ rw c), rw (p .left)))

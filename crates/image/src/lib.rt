@@ -1,5 +1,5 @@
 // The method image of document 01: the writer, the reader, and the copy of an image's code. What an image is, when one is refused and with
-// which number is defined in `rules` (specs/Image.antt); what the reader's answer stands for in specs/Found.antt.
+// which number is defined in `rules` (specs/Image.antt); what the answers stand for in specs/Answers.antt.
 mod block;
 mod reading;
 mod writing;
@@ -9,10 +9,10 @@ ghost use Prim.Native.Nat.{_+_, _≤_, min};
 ghost use lib.ListN.{length};
 ghost use Rattle.rules.specs.Refusal.{done};
 ghost use Rattle.rules.specs.Numbers.{replyNumber};
-ghost use Rattle.rules.specs.Calls.{write};
+ghost use Rattle.rules.specs.Calls.{write, writeAnswer};
 ghost use Rattle.rules.specs.Image.{readImage, codeLength, codeIn};
 ghost use Rattle.words.specs.Parts.{putAt};
-ghost use Rattle.image.specs.Found.{foundAnswer, lengthRead};
+ghost use Rattle.image.specs.Answers.{replyTo, foundAnswer, lengthRead};
 use block::BLOCK_LIMIT;
 use block::BLOCK_SIZE;
 use block::DATA_SIZE;
@@ -32,10 +32,12 @@ pub enum Found {
     Refused(u8),
 }
 
-// The image of a code goes to the front of `out`: done, or 26, 27 with `out` as it was. What stands past the blocks is kept.
+// The image of a code goes to the front of `out`: done, or 26, 27 with `out` as it was. What stands past the blocks is kept. The clause
+// `reply` says more than `number` in one point: a write that is done is not answered by `Refused(0)`.
 pub fn write(code: &[u8], out: &mut [u8]) -> Reply
     ensures number { λ r. ⌜ replyNumber r ≡ write (now (code .entry)) (now (out .entry)) .number ⌝ }
     ensures memory { λ _. ⌜ now (out .exit) ≡ write (now (code .entry)) (now (out .entry)) .memory ⌝ }
+    ensures reply { λ r. ⌜ r ≡ replyTo (writeAnswer (now (code .entry)) (now (out .entry))) ⌝ }
 {
     let length = code.len();
     if length == 0 {

@@ -5,7 +5,7 @@ ghost use lib.ListN.{length, drop};
 ghost use Rattle.words.specs.Parts.{highAt};
 ghost use Rattle.rules.specs.Refusal.{done, unless};
 ghost use Rattle.rules.specs.Image.{blockSize, codeIn, readCauses, anyCheckWrong, anyNonzero};
-ghost use Rattle.image.specs.Found.{foundAnswer, lengthRead};
+ghost use Rattle.image.specs.Answers.{foundAnswer, lengthRead};
 use crate::Found;
 use crate::block::BLOCK_SIZE;
 use crate::block::HEAD_SIZE;

@@ -1,7 +1,7 @@
--- `copy_code` copies one run of the code for each block. The invariant: data up to p is copied, which for i blocks is all of theirs, but not
--- the head and not past the code. Assumes nothing.
-use mathlib.Core.Path.{_≡_, refl, sym, ap, _∙_}
-use Prim.Native.Nat.{ℕ, _+_, _-_, _*_, _≤_, _<_, min, max}
+-- `copy_code` copies one run of the code for each block. The invariant: data up to p is copied, which for i blocks is all of theirs, but
+-- neither the head nor what is past the code. Assumes nothing.
+use mathlib.Core.Path.{_≡_, refl, sym, _∙_}
+use Prim.Native.Nat.{_+_, _-_, _*_, _≤_, min, max}
 use native.Mathlib.Omega.{arith}
 use lib.ListN.{length, take, length-take}
 use lib.Seq.{take-all}
@@ -13,11 +13,6 @@ use Rattle.image.proofs.Data.{length-is, code-size}
 use Rattle.image.proofs.Copies.{ends, Run, run-is, next-run}
 use Rattle.image.proofs.copy_code.Statement.{statement}
 use Rattle.image.proofs.copy_code.Tie as tie
-use Rattle.image.proofs.copy_code.Reads as reads
-use Rattle.image.proofs.copy_code.Lts as lts
-use Rattle.image.proofs.least.Reads as least-reads
-use Rattle.image.proofs.reading.code_length.Reads as code-length-reads
-use Rattle.words.proofs.copy.Reads as copy-reads
 
 abbrev Inv-loop : tie.InvT-loop
 Inv-loop image out₀ at count end p₀ i₀ out p i =
@@ -48,7 +43,8 @@ run c =
     let image = at-length .before .before .before .args .image .now in
     let L = at-length .code-length .result in
     let e = ends image (right (at-length .before .before .before)) .0 in
-    run-is (blocksIn image) L (at-loop .loop .i) (at-loop .loop .p) (c .least .result) (c .before .loop-test .taken) (rw (stated at-length) e)
+    let last : dataSize * (blocksIn image - 1) ≤ headSize + L = rw (stated at-length) e in
+    run-is (blocksIn image) L (at-loop .loop .i) (at-loop .loop .p) (c .least .result) (c .before .loop-test .taken) last
     (at-loop .loop .inv .1) (c .least .ensures)
 
 -- ---- the needs
@@ -128,8 +124,9 @@ loop-again c =
     let l = at-loop .loop in
     let q = at-least .least .result in
     let k = run at-least in
-    let here = next-run (a .image .now) (right s) (a .out .now) (a .at) (l .i) (l .p) q (at-least .before .loop-test .taken) (rw (stated (at-loop .before)) at k)
-    (l .inv .3) (at-copy .copy .ensures) in
+    let k′ = rw (stated (at-loop .before)) at k in
+    let test = at-least .before .loop-test .taken in
+    let here = next-run (a .image .now) (right s) (a .out .now) (a .at) (l .i) (l .p) q test k′ (l .inv .3) (at-copy .copy .ensures) in
     (omega arith, omega arith, omega arith, here)
 
 same-length : tie.Need-same-length Inv-loop μ-loop

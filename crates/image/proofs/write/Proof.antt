@@ -1,6 +1,5 @@
 -- `write` tests the rows of 26 and 27 in their order, and writes the blocks. Assumes nothing.
-use mathlib.Core.Path.{_≡_, sym, ap, _∙_}
-use Prim.Native.Nat.{ℕ, _*_, _≤_, _<_}
+use Prim.Native.Nat.{ℕ, _*_, _≤_}
 use native.Mathlib.Omega.{arith}
 use lib.ListN.{length}
 use borrow.Author.Needs.{needs}
@@ -28,7 +27,9 @@ unfolding writeCauses
 left-2 c = passed (left-1 (c .before)) (le-ltb codeLimit (length (c .before .before .before .before .args .code .now)) (c .if2 .left))
 
 few : (c : tie.After-block-count) → c .block-count .result ≤ blockLimit
-few c = rw (c .block-count .ensures) (few-blocks (length (c .before .before .before .before .before .args .code .now)) (c .before .if2 .left))
+few c =
+    let code = c .before .before .before .before .before .args .code .now in
+    rw (c .block-count .ensures) (few-blocks (length code) (c .before .if2 .left))
 
 left-3 : (c : tie.Else3) → Left (c .before .before .before .before .before .before) 3
 unfolding writeCauses

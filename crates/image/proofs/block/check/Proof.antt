@@ -1,6 +1,4 @@
 -- `check` is the complement of the sum, folded twice. Assumes nothing.
-use mathlib.Core.Path.{_≡_, ap, _∙_}
-use Prim.Native.Nat.{ℕ, _≤_}
 use Rattle.image.proofs.Checks.{folded-small, check-is}
 use borrow.Author.Needs.{needs}
 use Rattle.image.proofs.block.check.Statement.{statement}

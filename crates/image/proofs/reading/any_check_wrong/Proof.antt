@@ -47,7 +47,8 @@ right-requires c κs =
 
 -- what `right` says of block i
 told : (c : tie.After-right Inv-loop μ-loop)
-    → c .right .result ≡ isRight (take blockSize (drop (blockSize * c .before .before .before .loop .i) (c .before .before .before .before .before .args .image .now)))
+    → let image = c .before .before .before .before .before .args .image .now in
+    c .right .result ≡ isRight (take blockSize (drop (blockSize * c .before .before .before .loop .i) image))
 told c =
     let at-loop = c .before .before .before in
     let at = blockSize * at-loop .loop .i in

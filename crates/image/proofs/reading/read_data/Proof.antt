@@ -1,18 +1,18 @@
 -- `read_data` tests the rows from 22 on in their order: each is passed, or the first that holds decides. Assumes nothing.
 use mathlib.Core.Path.{_≡_, sym, ap, _∙_}
 use mathlib.Core.Bool.{true, not}
-use mathlib.Core.List.{List}
 use Prim.Native.Nat.{ℕ, _+_, _-_, _*_, _≤_}
 use native.Mathlib.Omega.{arith}
-use lib.ListN.{length, getD, take, drop}
+use lib.ListN.{length, getD}
 use borrow.Author.Needs.{needs}
 use borrow.Author.Tests.{eq-eqb, ne-eqb, lt-ltb, le-ltb}
 use Rattle.rules.specs.Limits.{codeLimit}
-use Rattle.rules.specs.Refusal.{Answer, refused, done, unless}
-use Rattle.rules.specs.Image.{dataSize, headSize, blockCount, codeIn, readCauses, anyNonzero}
-use Rattle.image.specs.Found.{lengthRead}
+use Rattle.rules.specs.Refusal.{refused, done, unless}
+use Rattle.rules.specs.Image.{dataSize, headSize, blockCount, codeIn, readCauses}
+use Rattle.image.specs.Answers.{lengthRead}
 use Rattle.image.proofs.Rows.{Passed, none-passed, passed, stopped, rowAt}
-use Rattle.image.proofs.Causes.{dataRows, last-block, first-row, second-row, none-row, many-row, count-row, zeros-row, found-size, rows-end}
+use Rattle.image.proofs.Causes.{dataRows, last-block, first-row, second-row, none-row, many-row}
+use Rattle.image.proofs.Causes.{count-row, zeros-row, found-size, rows-end}
 use Rattle.image.proofs.reading.read_data.Statement.{statement}
 use Rattle.image.proofs.reading.read_data.Tie as tie
 
@@ -159,8 +159,8 @@ any-nonzero-requires c κs = search needs
 
 -- what `any_nonzero` says is the last row
 padding : (c : tie.After-any-nonzero)
-    → rowAt (dataRows (c .before .before .before .before .before .before .before .before .before .before .before .before .args .image .now)) 5 .1
-    ≡ c .any-nonzero .result
+    → let s = c .before .before .before .before .before .before .before .before .before .before .before .before in
+    rowAt (dataRows (s .args .image .now)) 5 .1 ≡ c .any-nonzero .result
 padding c =
     let at-count = c .before .before in
     let s = at-count .before .before .before .before .before .before .before .before .before .before in

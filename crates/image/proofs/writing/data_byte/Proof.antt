@@ -1,10 +1,10 @@
 -- `data_byte` is byte `at` of the head and the code, or 0 behind them. Assumes nothing.
-use mathlib.Core.Path.{_≡_, refl, sym, ap, _∙_}
+use mathlib.Core.Path.{_≡_, sym, ap, _∙_}
 use mathlib.Core.List.{List}
 use Prim.Native.Nat.{ℕ, _+_, _-_, _≤_}
 use native.Mathlib.Omega.{arith}
 use borrow.Author.Needs.{needs}
-use lib.ListN.{length, getD, List·getD-eq-default}
+use lib.ListN.{getD, List·getD-eq-default}
 use Rattle.rules.specs.Image.{headSize, headed}
 use Rattle.image.proofs.Writes.{behind-head}
 use Rattle.image.proofs.writing.data_byte.Statement.{statement}

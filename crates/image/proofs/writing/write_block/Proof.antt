@@ -1,8 +1,7 @@
 -- `write_block` fills in the data, and writes its check behind it. Assumes nothing.
-use mathlib.Core.Path.{_≡_, sym}
-use mathlib.Core.List.{List}
+use mathlib.Core.Path.{sym}
 use native.Mathlib.Omega.{arith}
-use lib.ListN.{length, take, drop}
+use lib.ListN.{drop}
 use lib.Seq.{length-take-le}
 use Rattle.rules.specs.Image.{headed}
 use Rattle.image.proofs.Writes.{filled-size, block-is}
@@ -50,7 +49,8 @@ returns c =
     let at-fill = at-check .before .before .before .before in
     let s = at-fill .before .before .before .before in
     let a = s .args in
-    block-is (a .out .now) (drop (a .from) (headed (a .code .now))) (s .pre .1 .1) (at-fill .fill .ensures) (at-check .check .ensures) (at-put .put16-high .ensures)
+    let bytes = drop (a .from) (headed (a .code .now)) in
+    block-is (a .out .now) bytes (s .pre .1 .1) (at-fill .fill .ensures) (at-check .check .ensures) (at-put .put16-high .ensures)
 
 pub write-block-spec : {M : Type 1} → statement M
 write-block-spec =

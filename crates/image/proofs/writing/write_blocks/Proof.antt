@@ -12,9 +12,6 @@ use Rattle.rules.specs.Image.{blockSize, dataSize, headed, blocks}
 use Rattle.image.proofs.Writes.{blocks-more, blocks-size}
 use Rattle.image.proofs.writing.write_blocks.Statement.{statement}
 use Rattle.image.proofs.writing.write_blocks.Tie as tie
-use Rattle.image.proofs.writing.write_blocks.Reads as reads
-use Rattle.image.proofs.writing.write_blocks.Lts as lts
-use Rattle.image.proofs.writing.write_block.Reads as write-block-reads
 
 abbrev Inv-loop : tie.InvT-loop
 Inv-loop code out₀ count i₀ out i =
