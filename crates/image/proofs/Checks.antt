@@ -24,9 +24,9 @@ unfolding wordSum
 sum-end bytes i h = rw (drop-of-length-le bytes h)
 
 -- two foldings leave no carry, for the sum of 255 words
-pub folded-small : (n : ℕ) → n ≤ 16711425 → folded (folded n) ≤ 65535
+pub folded-small : {s t u : ℕ} → s ≤ 16711425 → t ≡ folded s → u ≡ folded t → u ≤ 65535
 unfolding folded
-folded-small n h = omega arith
+folded-small h p q = omega arith
 
 -- the check, as the code computes it
 pub check-is : (bytes : List ℕ) {s t u : ℕ} → s ≡ wordSum bytes → t ≡ folded s → u ≡ folded t → 65535 - u ≡ checkOf bytes

@@ -118,6 +118,11 @@ module _ (count i : ℕ) (xs out : List ℕ) (h : i < count) (l : blockSize * co
 
 -- ---- the answer
 
+-- the blocks of any slice can be counted in bytes
+pub counted : (L : ℕ) → L < 9223372036854775808 → blockSize * blockCount L < 18446744073709551616
+unfolding blockCount
+counted L h = omega arith
+
 pub few-blocks : (L : ℕ) → L ≤ codeLimit → blockCount L ≤ blockLimit
 unfolding blockCount
 few-blocks L h = omega arith

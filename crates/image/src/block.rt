@@ -1,6 +1,6 @@
 // One block: 510 bytes of data, then their RFC 1071 check, high byte first. And how many blocks a code fills.
 ghost use mathlib.Core.Path.{_≡_};
-ghost use Prim.Native.Nat.{_≤_};
+ghost use Prim.Native.Nat.{_≤_, _<_};
 ghost use lib.ListN.{length, take};
 ghost use lib.Dec.{eqb};
 ghost use Rattle.words.specs.Parts.{highAt};
@@ -53,8 +53,10 @@ pub fn check(bytes: &[u8]) -> u16
     requires { ⌜ length (now bytes) ≡ dataSize ⌝ }
     ensures { λ r. ⌜ r ≡ checkOf (now (bytes .entry)) ⌝ }
 {
-    let sum = fold(fold(word_sum(bytes)));
-    (65535 - sum) as u16
+    let sum = word_sum(bytes);
+    let once = fold(sum);
+    let twice = fold(once);
+    (65535 - twice) as u16
 }
 
 // A block's last two bytes are the check of its data, compared exactly.
@@ -67,7 +69,7 @@ pub fn right(block: &[u8]) -> bool
 
 // The fewest blocks that hold a code of this length and what stands before it.
 pub fn block_count(length: usize) -> usize
-    requires { ⌜ length ≤ 65535 ⌝ }
+    requires { ⌜ length < 9223372036854775808 ⌝ }
     ensures { λ r. ⌜ r ≡ blockCount length ⌝ }
 {
     (HEAD_SIZE + length + (DATA_SIZE - 1)) / DATA_SIZE

@@ -40,14 +40,15 @@ pub fn write(code: &[u8], out: &mut [u8]) -> Reply
     ensures reply { λ r. ⌜ r ≡ replyTo (writeAnswer (now (code .entry)) (now (out .entry))) ⌝ }
 {
     let length = code.len();
+    let count = block::block_count(length);
+    let size = BLOCK_SIZE * count;
     if length == 0 {
-        return Reply::Refused(CODE_LENGTH);
+        return Reply::Refused(CODE_LENGTH); // no code
     }
     if CODE_LIMIT < length {
-        return Reply::Refused(CODE_LENGTH);
+        return Reply::Refused(CODE_LENGTH); // too much code
     }
-    let count = block::block_count(length);
-    if out.len() < BLOCK_SIZE * count {
+    if out.len() < size {
         return Reply::Refused(OUTPUT_SHORT);
     }
     writing::write_blocks(code, out, count);

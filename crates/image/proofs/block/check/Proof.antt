@@ -14,9 +14,7 @@ fold-requires-2 : tie.Need-fold-requires-2
 fold-requires-2 c κs = search needs
 
 sub-result : tie.Need-sub-result
-sub-result c =
-    let at-sum = c .before .before in
-    rw (c .fold2 .ensures, c .before .fold .ensures) (folded-small (at-sum .word-sum .result) (at-sum .word-sum .ensures .1))
+sub-result c = folded-small (c .before .before .word-sum .ensures .1) (c .before .fold .ensures) (c .fold2 .ensures)
 
 cast-result : tie.Need-cast-result
 cast-result c = search needs
