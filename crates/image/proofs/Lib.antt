@@ -1,0 +1,11 @@
+pub mod Rows
+pub mod Checks
+pub mod Zeros
+pub mod Data
+pub mod Causes
+pub mod Right
+pub mod Answers
+pub mod Copies
+pub mod Writes
+pub mod Blocks
+pub mod RoundTrip
