@@ -10,7 +10,7 @@ use Rattle.words.specs.Parts.{highAt}
 use Rattle.rules.specs.Limits.{codeLimit}
 use Rattle.rules.specs.Refusal.{Row, Answer, unless}
 use Rattle.rules.specs.Image.{blockSize, dataSize, headSize, blockCount, codeLength, codeIn, anyNonzero, readCauses}
-use Rattle.image.proofs.Rows.{rowAt, Passed}
+use Rattle.rules.proofs.Rows.{rowAt, Passed}
 use Rattle.image.proofs.Data.{blocks-are, data-byte, length-is, padding-is, code-size}
 
 -- the rows from 22 on

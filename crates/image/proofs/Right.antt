@@ -11,7 +11,7 @@ use Rattle.rules.specs.Limits.{codeLimit}
 use Rattle.rules.specs.Refusal.{done, unless}
 use Rattle.rules.specs.Image.{blockSize, headSize, blockLimit, blocksIn, blockCount, imageData, codeLength}
 use Rattle.rules.specs.Image.{codeIn, anyCheckWrong, anyNonzero, readCauses, readImage}
-use Rattle.image.proofs.Rows.{all-passed}
+use Rattle.rules.proofs.Rows.{all-passed}
 
 pub record Right (image : List ℕ) : Type 0 where
   pub size : blockSize * blocksIn image ≡ length image

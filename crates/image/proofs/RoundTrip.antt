@@ -18,7 +18,7 @@ use Rattle.rules.specs.Refusal.{done, refuseIf, unless, numberOf}
 use Rattle.rules.specs.Calls.{write, writeAnswer}
 use Rattle.rules.specs.Image.{blockSize, dataSize, headSize, blocks, blockCount, blocksIn, headed, imageOf}
 use Rattle.rules.specs.Image.{imageData, codeLength, codeIn, anyNonzero, readImage, writeCauses, written}
-use Rattle.image.proofs.Rows.{all-passed}
+use Rattle.rules.proofs.Rows.{all-passed}
 use Rattle.image.proofs.Zeros.{zeros-pad, zero-at}
 use Rattle.image.proofs.Data.{blocks-are, data-is, data-byte, data-size, code-size}
 use Rattle.image.proofs.Causes.{last-block}

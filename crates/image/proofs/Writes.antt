@@ -15,10 +15,10 @@ use Rattle.rules.specs.Limits.{codeLimit}
 use Rattle.rules.specs.Refusal.{refused, done, unless}
 use Rattle.rules.specs.Calls.{write, writeAnswer}
 use Rattle.rules.specs.declared.Reply.the-variants.{Done, Refused}
-use Rattle.image.specs.Answers.{replyTo}
+use Rattle.rules.specs.Numbers.{replyTo}
 use Rattle.rules.specs.Image.{blockSize, dataSize, headSize, blockLimit, checkOf, headed, block}
 use Rattle.rules.specs.Image.{blocks, blockCount, imageOf, writeCauses, written}
-use Rattle.image.proofs.Rows.{Passed}
+use Rattle.rules.proofs.Rows.{Passed}
 
 -- ---- the data
 

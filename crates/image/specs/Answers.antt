@@ -1,17 +1,10 @@
--- What the answers of the writer and of the reader stand for. Assumes nothing.
+-- What the answers of the reader stand for. Assumes nothing.
 use Prim.Native.Nat.{ℕ}
 use mathlib.Core.List.{List}
 use lib.ListN.{length}
 use Rattle.rules.specs.Refusal.{Answer, refused, done}
-use Rattle.rules.specs.declared.Reply.{Reply}
-use Rattle.rules.specs.declared.Reply.the-variants.{Done, Refused}
 use Rattle.image.specs.declared.Found.{Found}
 use Rattle.image.specs.declared.Found.the-variants as Found
-
--- the reply to a request: done, or its number
-abbrev pub replyTo : {A : Type 0} → Answer A → Reply
-replyTo (refused n) = Refused n
-replyTo (done a) = Done
 
 -- what the reader found: the code's length, or its number
 abbrev pub foundAnswer : Found → Answer ℕ

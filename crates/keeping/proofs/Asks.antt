@@ -13,7 +13,7 @@ use lib.Dec.{ltb}
 use borrow.Author.Tests.{leb-false}
 use Rattle.rules.specs.Limits.{recordCount, stackDepth, slotCount, placeCount}
 use Rattle.rules.specs.State.{State, Datum, value, handle, Last, split-item, close-item, wait-item, EndState, free-end, used, Registers, registers, RecordState, free-record, running, waiting, recordAt, endAt, slotAt, headOf, lastOf, isFreeEnd, lowestFreeRecord}
-use Rattle.rules.specs.Refusal.{Row, Answer, refused, done, refuseIf, unless, NoCause}
+use Rattle.rules.specs.Refusal.{Row, refused, done, NoCause}
 use Rattle.rules.specs.Instruction.{Instruction, cst, access, store, add, mul, leq, put, get, split, fork, plug, close, halt, same, hput, hcase, run, Decoded, decode}
 use Rattle.rules.specs.Causes.{stackFull, noFreeRecord, ownCauses, sharedCauses}
 use Rattle.rules.specs.RecordStep.{lowestFree, branch, partnerIn}
@@ -24,6 +24,7 @@ use Rattle.rules.specs.Count.{δ, total}
 use Rattle.rules.specs.Sound.{ValueWithin, DatumWithin, EndWithin, RecordWithin, RegistersWithin, inSlot, Sound}
 use Rattle.rules.specs.Events.{taken-from, instructionEvents, decodedEvents, recordEventsIn, recordEvents, meetingEvents, endEvents, pickEvents, events}
 use Rattle.rules.proofs.CountLaws.{δ-sym}
+use Rattle.rules.proofs.Rows.{all-passed}
 use Rattle.rules.proofs.TestLaws.{true-is-not-false}
 use Rattle.keeping.proofs.Move.{Move}
 use Rattle.keeping.proofs.FreeLaws.{record-free, lowest-serve}
@@ -42,17 +43,6 @@ refused-is-not-done h = absurd (let z : _≡_ {A = ℕ} 0 1 = cc in omega arith)
 
 pub done-is : {A : Type 0} {a b : A} → done a ≡ done b → a ≡ b
 done-is {a = a} {b = b} h = cc
-
--- no row holds
-pub unless-done : {A : Type 0} (rows : List Row) (x : Answer A) (a : A) → unless rows x ≡ done a → NoCause rows × (x ≡ done a)
-unfolding unless
-unless-done [] x a h = (tt, h)
-unless-done (row ∷ rows) x a h = go (row .1) refl h (unless-done rows x a)
-  where
-    go : (b : Bool) → row .1 ≡ b → refuseIf b (row .0) (unless rows x) ≡ done a → (unless rows x ≡ done a → NoCause rows × (x ≡ done a))
-        → NoCause (row ∷ rows) × (x ≡ done a)
-    go true q h f = refused-is-not-done h
-    go false q h f = let t = f h in ((q, t .0), t .1)
 
 no-cause-left : (xs ys : List Row) → NoCause (xs ++ ys) → NoCause xs
 no-cause-left [] ys h = tt
@@ -73,7 +63,7 @@ record-move st s r st′ h = asked (recordAt st r) refl h
         → Move st st′ (decodedEvents g (lowestFree st) x)
     decoded g is none q h = refused-is-not-done h
     decoded g is (some d) q h =
-        let rows = unless-done (ownCauses g (d .instruction) ++ sharedCauses st g (d .instruction)) _ st′ h in
+        let rows = all-passed (ownCauses g (d .instruction) ++ sharedCauses st g (d .instruction)) _ st′ h in
         let own = no-cause-left (ownCauses g (d .instruction)) (sharedCauses st g (d .instruction)) (rows .0) in
         let shared = no-cause-right (ownCauses g (d .instruction)) (sharedCauses st g (d .instruction)) (rows .0) in
         subst (λ (z : State). Move st z (instructionEvents g (lowestFree st) (d .instruction))) (done-is (rows .1))
@@ -297,7 +287,7 @@ unfolding askEnd endEvents endCauses meeting
 end-move st s e st′ h = asked (endAt st e) refl
   where
     rows : NoCause (endCauses st e) × (done (afterMeeting st e (partnerIn st e) (lowestFreeRecord st) (meeting st e)) ≡ done st′)
-    rows = unless-done (endCauses st e) (done (afterMeeting st e (partnerIn st e) (lowestFreeRecord st) (meeting st e))) st′ h
+    rows = all-passed (endCauses st e) (done (afterMeeting st e (partnerIn st e) (lowestFreeRecord st) (meeting st e))) st′ h
 
     asked : (x : EndState) → endAt st e ≡ x → Move st st′ (meetingEvents (meeting st e))
     asked free-end q = true-is-not-false refl (subst (λ (x : EndState). isFreeEnd x ≡ false) q (rows .0 .1 .0))

@@ -3,6 +3,7 @@ pub mod SmallFacts
 pub mod FullRun
 pub mod EasyErrors
 pub mod CountLaws
+pub mod Rows
 pub mod TestLaws
 pub mod SoundLaws
 pub mod Promises

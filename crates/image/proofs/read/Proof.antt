@@ -8,7 +8,7 @@ use borrow.Author.Tests.{eq-eqb, ne-eqb, lt-ltb, le-ltb}
 use Rattle.rules.specs.Refusal.{refused, done}
 use Rattle.rules.specs.Image.{blockSize, blockLimit, blocksIn, codeIn, readCauses, readImage}
 use Rattle.image.specs.Answers.{lengthRead}
-use Rattle.image.proofs.Rows.{Passed, none-passed, passed, stopped, rowAt}
+use Rattle.rules.proofs.Rows.{Passed, none-passed, passed, stopped, rowAt}
 use Rattle.image.proofs.read.Statement.{statement}
 use Rattle.image.proofs.read.Tie as tie
 

@@ -8,7 +8,7 @@ use Rattle.rules.specs.Limits.{codeLimit}
 use Rattle.rules.specs.Refusal.{done}
 use Rattle.rules.specs.Image.{blockSize, blockLimit, blockCount, writeCauses, written}
 use Rattle.rules.specs.Calls.{writeAnswer}
-use Rattle.image.proofs.Rows.{Passed, none-passed, passed, stopped}
+use Rattle.rules.proofs.Rows.{Passed, none-passed, passed, stopped}
 use Rattle.image.proofs.Writes.{counted, few-blocks, write-refused, write-done}
 use Rattle.image.proofs.write.Statement.{statement}
 use Rattle.image.proofs.write.Tie as tie

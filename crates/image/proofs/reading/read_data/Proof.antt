@@ -10,7 +10,7 @@ use Rattle.rules.specs.Limits.{codeLimit}
 use Rattle.rules.specs.Refusal.{refused, done, unless}
 use Rattle.rules.specs.Image.{dataSize, headSize, blockCount, codeIn, readCauses}
 use Rattle.image.specs.Answers.{lengthRead}
-use Rattle.image.proofs.Rows.{Passed, none-passed, passed, stopped, rowAt}
+use Rattle.rules.proofs.Rows.{Passed, none-passed, passed, stopped, rowAt}
 use Rattle.image.proofs.Causes.{dataRows, last-block, first-row, second-row, none-row, many-row}
 use Rattle.image.proofs.Causes.{count-row, zeros-row, found-size, rows-end}
 use Rattle.image.proofs.reading.read_data.Statement.{statement}
