@@ -7,11 +7,13 @@ use mir.Syntax.{w32}
 use mir.Val.{toZ}
 use Rattle.rules.specs.Limits.{slotCount, stackDepth, environmentDepth}
 use Rattle.rules.specs.Bytes.{pad, table, numberAt}
-use Rattle.rules.specs.State.{Value, Registers as Process, registers}
+use Rattle.rules.specs.State.{Value, Registers as Process, registers, RecordState, free-record, running, waiting}
 use Rattle.rules.specs.Slots.{Slots, calleeSlots}
 use Rattle.rules.specs.Causes.{top}
-use Rattle.rules.specs.Layout.{valueSize, optional}
+use Rattle.rules.specs.Layout.{valueSize, optional, noRegisters}
 use Rattle.registers.specs.declared.Registers.{Registers}
+use Rattle.registers.specs.declared.records.Status.{Status}
+use Rattle.registers.specs.declared.records.Status.the-variants.{Free, Running, Waiting}
 
 unfoldable pub registersOf : Process → Registers
 registersOf g = record {
@@ -48,3 +50,14 @@ combined g v = registers (g .place) (v ∷ drop 2 (g .stack)) (g .environment) (
 
 abbrev pub withSlots : Process → Slots → Process
 withSlots g slots = registers (g .place) (g .stack) (g .environment) slots
+
+-- the registers that a record's bytes show: those of a record in use, none of a free one
+abbrev pub registersIn : RecordState → Process
+registersIn free-record = noRegisters
+registersIn (running g) = g
+registersIn (waiting g) = g
+
+abbrev pub statusOf : RecordState → Status
+statusOf free-record = Free
+statusOf (running g) = Running
+statusOf (waiting g) = Waiting

@@ -1,8 +1,18 @@
-// The registers of one process, by value.
-mod values;
+// The registers of one process by value, and the process records in the lent state memory.
 mod process;
+mod records;
+mod slots;
+mod values;
 
 pub use process::Popped;
+pub use records::Status;
+pub use records::clear;
+pub use records::environment_value;
+pub use records::load;
+pub use records::lowest_free_record;
+pub use records::save_running;
+pub use records::save_waiting;
+pub use records::status_of;
 
 // The registers of one process.
 pub struct Registers {
