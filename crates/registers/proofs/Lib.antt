@@ -1,0 +1,6 @@
+pub mod ValueLaws
+pub mod Fields
+pub mod SlotLaws
+pub mod RecordLaws
+pub mod WriteLaws
+pub mod FreeRecords

@@ -1,0 +1,97 @@
+-- Arrays of values: what a shift by one makes of a padded list. A signed number that is moved is read back from its bits, so each law asks that
+-- the values fit. Assumes nothing.
+use mathlib.Core.Path.{_≡_, refl, sym, ap, _∙_, subst}
+use mathlib.Core.List.{List, [], _∷_, _++_}
+use Prim.Native.Nat.{ℕ, zero, suc, _+_, _-_, _≤_, _<_}
+use native.Mathlib.Nat.{le-of-suc-le-suc}
+use native.Mathlib.Omega.{arith}
+use lib.ListN.{length, getD, drop, length-drop}
+use lib.Seq.{getD-drop}
+use lib.IntN.{ℤ, pos}
+use mir.Syntax.{Width, w32}
+use mir.Val.{Val, toZ, ofZ, SFits}
+use mir.Facts.{toZ-ofZ}
+use denote.Signed.{SInt}
+use denote.Array.{Array, each}
+use denote.Shadow.{shadow}
+use denote.Laws.{Is}
+use borrow.Author.Needs.{needs}
+use Rattle.rules.specs.Limits.{stackDepth}
+use Rattle.rules.specs.Bytes.{pad, table}
+use Rattle.rules.specs.State.{Value}
+use Rattle.words.proofs.Pads.{length-pad, getD-pad}
+use Rattle.words.proofs.Tables.{table-is}
+
+-- ---- the values of an array fit
+
+each-fits : (xs : List ℤ) (us : List Val) (i : ℕ) → shadow (each ℤ (SInt w32 .own) xs us) → SFits w32 (getD xs i (pos 0))
+each-fits [] us i p = search needs
+each-fits (x ∷ xs) [] i p = absurd p
+each-fits (x ∷ xs) (u ∷ us) zero p = record { sfits = p .0 .1 }
+each-fits (x ∷ xs) (u ∷ us) (suc i) p = each-fits xs us i (p .1)
+
+pub values-fit : (n : ℕ) (xs : List ℤ) (vs : List Val) → Is (Array (SInt w32) n) xs vs → (i : ℕ) → SFits w32 (getD xs i (pos 0))
+values-fit n xs vs p i = each-fits xs (p .0) i (p .1 .1)
+
+-- ---- padded lists
+
+-- a table that agrees with a list is the list, padded
+pub table-pad : (n : ℕ) (f : ℕ → Value) (l : List Value) → ((i : ℕ) → i < n → f i ≡ getD l i (pos 0)) → table n f ≡ pad n (pos 0) l
+table-pad n f l h =
+    table-is (pos 0) n f (pad n (pos 0) l) (length-pad n (pos 0) l) (λ i p. h i p ∙ sym (getD-pad n (pos 0) l i p))
+
+-- one more cell behind a list that has room
+pad-more : (n : ℕ) (l : List Value) → length l ≤ n → pad n (pos 0) l ++ (pos 0 ∷ []) ≡ pad (suc n) (pos 0) l
+unfolding pad
+pad-more zero [] h = refl
+pad-more zero (x ∷ l) h = absurd (omega arith)
+pad-more (suc n) [] h = ap (λ (r : List Value). pos 0 ∷ r) (pad-more n [] (omega arith))
+pad-more (suc n) (x ∷ l) h = ap (λ (r : List Value). x ∷ r) (pad-more n l (le-of-suc-le-suc h))
+
+-- a value as it is read back from its bits
+abbrev pub moved : Value → Value
+moved v = toZ w32 (ofZ w32 v)
+
+module _ (n : ℕ) (a l : List Value) (fits : (i : ℕ) → SFits w32 (getD a i (pos 0))) (e : a ≡ pad (suc n) (pos 0) l) where
+  read-pad : (i : ℕ) → i < suc n → moved (getD a i (pos 0)) ≡ getD l i (pos 0)
+  read-pad i h =
+      toZ-ofZ {w = w32} {z = getD a i (pos 0)} (fits i)
+      ∙ ap (λ (x : List Value). getD x i (pos 0)) e
+      ∙ getD-pad (suc n) (pos 0) l i h
+
+  -- v in front of the first n
+  pub front-law : (v : Value) → SFits w32 v → moved v ∷ table n (λ (i : ℕ). moved (getD a i (pos 0))) ≡ pad (suc n) (pos 0) (v ∷ l)
+  unfolding pad
+  front-law v f = λ j. toZ-ofZ {w = w32} {z = v} f j ∷ table-pad n (λ (i : ℕ). moved (getD a i (pos 0))) l (λ i h. read-pad i (omega arith)) j
+
+  -- those behind the first, and a zero
+  pub behind-law : length l ≤ suc n → table n (λ (i : ℕ). moved (getD a (suc i) (pos 0))) ++ (pos 0 ∷ []) ≡ pad (suc n) (pos 0) (drop 1 l)
+  behind-law h =
+      let rest : length (drop 1 l) ≤ n = omega (arith, length-drop 1 l) in
+      ap (λ (x : List Value). x ++ (pos 0 ∷ []))
+      (table-pad n (λ (i : ℕ). moved (getD a (suc i) (pos 0))) (drop 1 l)
+      (λ i p. read-pad (suc i) (omega arith) ∙ ap (λ (k : ℕ). getD l k (pos 0)) (omega arith) ∙ sym (getD-drop 1 l i (pos 0))))
+      ∙ pad-more n (drop 1 l) rest
+
+-- the first
+pub first-is : {a : List Value} (l : List Value) → a ≡ pad stackDepth (pos 0) l → getD a 0 (pos 0) ≡ getD l 0 (pos 0)
+first-is l e = ap (λ (x : List Value). getD x 0 (pos 0)) e ∙ getD-pad stackDepth (pos 0) l 0 (omega arith)
+
+-- another value in front
+pub front-is : (l : List Value) {v w : Value} → v ≡ w → pad stackDepth (pos 0) (v ∷ l) ≡ pad stackDepth (pos 0) (w ∷ l)
+front-is l e = ap (λ (v : Value). pad stackDepth (pos 0) (v ∷ l)) e
+
+-- ---- counts
+
+pub one-more : {n : ℕ} (v : Value) (l : List Value) → n ≡ length l → n + 1 ≡ length (v ∷ l)
+one-more v l e = omega arith
+
+pub one-less : {n : ℕ} (l : List Value) → n ≡ length l → n - 1 ≡ length (drop 1 l)
+one-less l e = omega (arith, length-drop 1 l)
+
+-- the two in front, for one
+pub two-for-one : {n : ℕ} (v : Value) (l : List Value) → 1 < n → n ≡ length l → n - 1 ≡ length (v ∷ drop 2 l)
+two-for-one v l h e = omega (arith, length-drop 2 l)
+
+pub rest-fits : (l : List Value) → length l ≤ stackDepth → length (drop 1 l) ≤ stackDepth
+rest-fits l h = omega (arith, length-drop 1 l)

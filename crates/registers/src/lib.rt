@@ -1,0 +1,28 @@
+// The registers of one process by value, and the process records in the lent state memory.
+mod process;
+mod records;
+mod slots;
+mod values;
+
+pub use process::Popped;
+pub use records::Status;
+pub use records::clear;
+pub use records::environment_value;
+pub use records::load;
+pub use records::lowest_free_record;
+pub use records::save_running;
+pub use records::save_waiting;
+pub use records::status_of;
+
+// The registers of one process.
+pub struct Registers {
+    pub place: u16,
+    pub stack_count: u8,
+    pub environment_count: u8,
+    // 0 for an empty slot, else the end's number and one
+    pub slots: [u8; 8],
+    // top first, zeros behind the count
+    pub stack: [i32; 16],
+    // newest first, zeros behind the count
+    pub environment: [i32; 16],
+}

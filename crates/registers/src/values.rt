@@ -1,0 +1,59 @@
+// The sixteen cells of a stack or an environment.
+ghost use mathlib.Core.Path.{_≡_};
+ghost use mathlib.Core.List.{List, _∷_};
+ghost use Prim.Native.Nat.{_+_, _*_, _≤_};
+ghost use lib.IntN.{pos};
+ghost use lib.ListN.{length, drop};
+ghost use Rattle.rules.specs.Limits.{stackDepth};
+ghost use Rattle.rules.specs.Bytes.{pad, flat};
+ghost use Rattle.rules.specs.State.{Value};
+ghost use Rattle.rules.specs.Layout.{valueSize, valueBytes};
+ghost use Rattle.words.specs.Parts.{putAt};
+ghost use Rattle.registers.specs.Registers.{valuesAt};
+
+// v in front of the values.
+pub fn in_front(v: i32, values: [i32; 16]) -> [i32; 16]
+    ensures { λ r. ⌜ ((l : List Value) → values ≡ pad stackDepth (pos 0) l → r ≡ pad stackDepth (pos 0) (v ∷ l)) ⌝ }
+{
+    [
+        v, values[0], values[1], values[2], values[3], values[4], values[5], values[6],
+        values[7], values[8], values[9], values[10], values[11], values[12], values[13], values[14],
+    ]
+}
+
+// The values behind the first.
+pub fn behind_first(values: [i32; 16]) -> [i32; 16]
+    ensures { λ r. ⌜ ((l : List Value) → length l ≤ stackDepth → values ≡ pad stackDepth (pos 0) l
+        → r ≡ pad stackDepth (pos 0) (drop 1 l)) ⌝ }
+{
+    [
+        values[1], values[2], values[3], values[4], values[5], values[6], values[7], values[8],
+        values[9], values[10], values[11], values[12], values[13], values[14], values[15], 0,
+    ]
+}
+
+// The values that stand in m from `at` on.
+pub fn read(m: &[u8], at: usize) -> [i32; 16]
+    requires { ⌜ at + valueSize * stackDepth ≤ length (now m) ⌝ }
+    ensures { λ r. ⌜ r ≡ valuesAt (now (m .entry)) at ⌝ }
+{
+    let mut values = [0; 16];
+    let mut k = 0;
+    while k < 16 {
+        values[k] = words::get_signed(m, at + 4 * k);
+        k += 1;
+    }
+    values
+}
+
+// The values go into m from `at` on.
+pub fn write(m: &mut [u8], at: usize, values: [i32; 16])
+    requires { ⌜ at + valueSize * stackDepth ≤ length (now m) ⌝ }
+    ensures { λ _. ⌜ now (m .exit) ≡ putAt (now (m .entry)) at (flat valueBytes values) ⌝ }
+{
+    let mut k = 0;
+    while k < 16 {
+        words::put_signed(m, at + 4 * k, values[k]);
+        k += 1;
+    }
+}
