@@ -35,3 +35,8 @@ instructionOf code place (Run p n j) = rules.run p n (slotsAt code place 5 j)
 abbrev pub meaning : (code : List ℕ) (place : ℕ) → Decoded → Option rules.Decoded
 meaning code place (Good i next) = some (record { instruction = instructionOf code place i; next = next })
 meaning code place Bad = none
+
+-- the place where reading goes on: after an instruction, at the same place where there is none
+abbrev pub goesOn : (place : ℕ) → Decoded → ℕ
+goesOn place (Good i next) = next
+goesOn place Bad = place

@@ -11,6 +11,7 @@ mod lengths; // lengths.rt: the length of an instruction's fixed part by its fir
 mod operands; // operands.rt: bytes, places and signed numbers in the code
 mod forms; // forms.rt: the seventeen forms, each with its operands
 mod listed; // listed.rt: the places of an hcase and the slots of a run
+pub mod reader; // reader.rt: a struct that holds the code and a place
 
 pub use lengths::LENGTHS;
 pub use lengths::length_table;
