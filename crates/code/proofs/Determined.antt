@@ -1,5 +1,5 @@
--- The contract of `decode` determines its answer: two answers with the same meaning, decoded at the same place, are equal. The idea: what an
--- answer means can be read back. Assumes nothing.
+-- The contract of `decode` determines its answer: two answers with the same meaning, decoded at the same place, are equal. The idea:
+-- from what an answer means the answer can be read back. Assumes nothing.
 use mathlib.Core.Path.{_≡_, refl, sym, ap, _∙_}
 use mathlib.Core.Option.{Option, none, some}
 use mathlib.Core.List.{List}
@@ -9,7 +9,8 @@ use Rattle.rules.specs.declared.Slot.{Slot}
 use Rattle.rules.specs.Instruction as rules
 use Rattle.rules.specs.Instruction.{cst, access, store, add, mul, leq, put, get, split, fork, plug, close, halt, same, hput, hcase, run}
 use Rattle.code.specs.declared.Instruction.{Instruction}
-use Rattle.code.specs.declared.Instruction.the-variants.{Cst, Access, Store, Add, Mul, Leq, Put, Get, Split, Fork, Plug, Close, Halt, Same, Hput, Hcase, Run}
+use Rattle.code.specs.declared.Instruction.the-variants.{Cst, Access, Store, Add, Mul, Leq, Put, Get, Split, Fork}
+use Rattle.code.specs.declared.Instruction.the-variants.{Plug, Close, Halt, Same, Hput, Hcase, Run}
 use Rattle.code.specs.declared.Decoded.{Decoded}
 use Rattle.code.specs.declared.Decoded.the-variants.{Good, Bad}
 use Rattle.code.specs.Meaning.{instructionOf, meaning}

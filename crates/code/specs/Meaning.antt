@@ -1,5 +1,5 @@
--- What the code's answers mean: each case of the enum is an instruction of `rules`, read beside the code that it was decoded from, since the
--- places of an hcase and the slots of a run stay there. Assumes nothing.
+-- What the code's answers mean: each case of the enum is an instruction of `rules`, read beside the code that it was decoded from,
+-- since the places of an hcase and the slots of a run stay there. Assumes nothing.
 use Prim.Native.Nat.{ℕ}
 use mathlib.Core.Option.{Option, none, some}
 use mathlib.Core.List.{List}
@@ -7,7 +7,8 @@ use Rattle.rules.specs.Numbers.{slotNumber}
 use Rattle.rules.specs.Instruction as rules
 use Rattle.rules.specs.Instruction.{placesAt, slotsAt}
 use Rattle.code.specs.declared.Instruction.{Instruction}
-use Rattle.code.specs.declared.Instruction.the-variants.{Cst, Access, Store, Add, Mul, Leq, Put, Get, Split, Fork, Plug, Close, Halt, Same, Hput, Hcase, Run}
+use Rattle.code.specs.declared.Instruction.the-variants.{Cst, Access, Store, Add, Mul, Leq, Put, Get, Split, Fork}
+use Rattle.code.specs.declared.Instruction.the-variants.{Plug, Close, Halt, Same, Hput, Hcase, Run}
 use Rattle.code.specs.declared.Decoded.{Decoded}
 use Rattle.code.specs.declared.Decoded.the-variants.{Good, Bad}
 

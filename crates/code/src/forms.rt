@@ -3,7 +3,8 @@
 ghost use mathlib.Core.Path.{_≡_};
 ghost use Prim.Native.Nat.{_+_, _≤_};
 ghost use lib.ListN.{length};
-ghost use Rattle.rules.specs.Instruction.{byteAt, sizeOf, formOf, instructionAt, split-name, fork-name, plug-name, decode as decodedByRules};
+ghost use Rattle.rules.specs.Instruction.{byteAt, sizeOf, formOf, instructionAt, decode as decodedByRules};
+ghost use Rattle.rules.specs.Instruction.{split-name, fork-name, plug-name};
 ghost use Rattle.code.specs.Meaning.{instructionOf, meaning};
 use crate::Decoded;
 use crate::Instruction;

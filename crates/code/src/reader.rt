@@ -18,14 +18,15 @@ pub struct Taken<'a> {
 }
 
 // What is found at a place, and the place where reading goes on: after an instruction, at the same place where there is none.
-pub struct Found {
-    pub decoded: Decoded,
-    pub place: usize,
+struct Found {
+    decoded: Decoded,
+    place: usize,
 }
 
 fn found_at(lengths: &[u8; 256], code: &[u8], place: usize) -> Found
     requires { ⌜ now lengths ≡ lengthsOfRules ⌝ }
-    ensures { λ r. ⌜ (meaning (now (code .entry)) place (r .decoded) ≡ decodedByRules (now (code .entry)) place) × (r .place ≡ goesOn place (r .decoded)) ⌝ }
+    ensures { λ r. ⌜ (meaning (now (code .entry)) place (r .decoded) ≡ decodedByRules (now (code .entry)) place)
+        × (r .place ≡ goesOn place (r .decoded)) ⌝ }
 {
     let decoded = decode(lengths, code, place);
     match decoded {
@@ -53,7 +54,10 @@ impl<'a> Reader<'a> {
     // The instruction at the reader's place, or bad, with the reader after it.
     pub fn next(self, lengths: &[u8; 256]) -> Taken<'a>
         requires { ⌜ now lengths ≡ lengthsOfRules ⌝ }
-        ensures { λ t. ⌜ (meaning (now (self .entry .code)) (self .entry .place) (t .decoded) ≡ decodedByRules (now (self .entry .code)) (self .entry .place)) × (t .after .code ≡ self .entry .code) × (t .after .place ≡ goesOn (self .entry .place) (t .decoded)) ⌝ }
+        ensures { λ t. ⌜ (meaning (now (self .entry .code)) (self .entry .place) (t .decoded)
+            ≡ decodedByRules (now (self .entry .code)) (self .entry .place))
+            × (t .after .code ≡ self .entry .code)
+            × (t .after .place ≡ goesOn (self .entry .place) (t .decoded)) ⌝ }
     {
         let found = found_at(lengths, self.code, self.place);
         Taken {

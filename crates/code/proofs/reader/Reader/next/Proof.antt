@@ -1,8 +1,7 @@
--- `code::reader::Reader::next` meets its contract: a walk of its MIR, by hand. The struct is taken apart, `found_at` is called on the table,
--- the slice and the number, and its answer goes into the result beside a reader of the same slice at the place where reading goes on.
--- All that the proof knows of `found_at` is that it meets its contract. The struct and the table's reference are Copy: what they own is had
--- twice, one copy is kept for the exit, and of the other the callee is given the table and the slice.
--- Assumes nothing.
+-- `code::reader::Reader::next` meets its contract: a walk of its MIR, by hand. The struct is taken apart, `found_at` is called on the
+-- table, the slice and the number, and its answer goes into the result beside a reader of the same slice at the place where reading goes
+-- on. All that the proof knows of `found_at` is that it meets its contract. The struct and the table's reference are Copy: what they own
+-- is had twice, one copy is kept for the exit, and of the other the callee is given the table and the slice. Assumes nothing.
 use mathlib.Core.Path.{_≡_, refl, ap, subst}
 use Prim.Native.Nat.{ℕ, _<_, _^_}
 use mathlib.Core.List.{List, [], _∷_}
@@ -31,7 +30,7 @@ use denote.RattleType.{RattleType, owns}
 use denote.Laws.{Is, shows}
 use denote.Plain.{uint-makes}
 use denote.Builtin.{u8, usize, Array}
-use denote.Ref.{RefT, NamedLft, ShrRef, now, ptr-vals, shr-tells, shr-copy, shr-lawful}
+use denote.Ref.{RefT, NamedLft, ShrRef, now, ptr-vals, shr-tells, shr-copy}
 use denote.Signature.{plain, namedLft}
 use denote.Signature.Array.{arrayOf}
 use denote.Slice.{sliceVal, ShrSlice}
@@ -46,7 +45,8 @@ use denote.Triple.Call.{calls-at}
 use denote.Triple.Entry.{Vals, onEntry}
 use denote.Triple.Spec.{Meets, tripleOf}
 use denote.Triple.Table.{entered, cited}
-use denote.Triple.Walked.{says, needs, Stays, stay-none, stay-none-ref, walkOf, goes-none, goes-none-ref, Walks, ends-at, walked, walk-meets}
+use denote.Triple.Walked.{says, needs, Stays, stay-none, stay-none-ref, walkOf, goes-none, goes-none-ref}
+use denote.Triple.Walked.{Walks, ends-at, walked, walk-meets}
 use denote.Exit.{yes}
 use denote.Triple.Clauses.{ensured, lasts}
 use Rattle.rules.specs.Instruction.{lengths, decode}
@@ -132,7 +132,8 @@ module _ {M : Type 1} (𝓤 : URA M) (H : Heap 𝓤) (A : Atoms 𝓤) (W : Given
   to = (((κ′, (κ, tt)), (q′, (q, tt)), tt, (x, (d .code, (d .place, tt))), passed), tt)
 
   asked : now x ≡ lengths →
-      ent 𝓤 (onEntry 𝓤 H A found-at.signature (κ′, (κ, tt)) (q′, (q, tt)) (x, (d .code, (d .place, tt))) passed) (FoundAt 𝓤 H A mem run .pre to)
+      ent 𝓤 (onEntry 𝓤 H A found-at.signature (κ′, (κ, tt)) (q′, (q, tt)) (x, (d .code, (d .place, tt))) passed)
+      (FoundAt 𝓤 H A mem run .pre to)
   asked right =
       qed W ((‵ (flft κ′ q′) ⊛ ‵ (flft κ q) ⊛ ‵ ftrue)
       ∷ ‵ (owns (ShrRef (named 0) κ′ Rows ∷ ShrSlice (named 1) κ u8 ∷ usize ∷ []) (x, (d .code, (d .place, tt))) passed) ∷ []) ∵
@@ -212,7 +213,8 @@ module _ {M : Type 1} (𝓤 : URA M) (H : Heap 𝓤) (A : Atoms 𝓤) (W : Given
         assigns ! (of-opd ! (load ! (from ! (fld ! refl (stop !))) (look-in ! 12 (sub ! 1 refl (whole !)))))
         (from ! (stop !)) (init ! 4 refl (tt, wt .1 .1 .0)) $
         move ! (16 ∷ []) $
-        use1 W (raw (FoundAt 𝓤 H A mem run .pre to) ⊛ ‵ Own ⊛ ‵ OwnTable) (apart right (wt .1 .1 .0 .fits)) $ split ! $ move ! (1 ∷ []) $ split ! $
+        use1 W (raw (FoundAt 𝓤 H A mem run .pre to) ⊛ ‵ Own ⊛ ‵ OwnTable) (apart right (wt .1 .1 .0 .fits)) $
+        split ! $ move ! (1 ∷ []) $ split ! $
         -- [the struct's; the table's; what the callee asks; _7; …; _0; …]
         move ! (2 ∷ []) $
         calls-at ! fm (FoundAt 𝓤 H A mem run) known to
@@ -241,9 +243,9 @@ module _ {M : Type 1} (𝓤 : URA M) (H : Heap 𝓤) (A : Atoms 𝓤) (W : Given
         drop ! $
         returns ! (look ! 17 refl) $ forget ! 3 refl $ forget ! 5 refl $ forget ! 7 refl $ forget ! 9 refl $
         forget ! 11 refl $ forget ! 13 refl $ forget ! 15 refl $ forget ! 17 refl $
-        move ! (17 ∷ 18 ∷ []) $ free1 ! $ move ! (15 ∷ 16 ∷ []) $ free1 ! $ move ! (13 ∷ 14 ∷ []) $ free1 ! $ move ! (11 ∷ 12 ∷ []) $ free1 ! $
-        move ! (9 ∷ 10 ∷ []) $ free1 ! $ move ! (7 ∷ 8 ∷ []) $ free1 ! $ move ! (5 ∷ 6 ∷ []) $ free1 ! $ move ! (3 ∷ 4 ∷ []) $ free1 ! $
-        free0 ! $ by ! (exits r is′ e)))))))))))))
+        move ! (17 ∷ 18 ∷ []) $ free1 ! $ move ! (15 ∷ 16 ∷ []) $ free1 ! $ move ! (13 ∷ 14 ∷ []) $ free1 ! $
+        move ! (11 ∷ 12 ∷ []) $ free1 ! $ move ! (9 ∷ 10 ∷ []) $ free1 ! $ move ! (7 ∷ 8 ∷ []) $ free1 ! $
+        move ! (5 ∷ 6 ∷ []) $ free1 ! $ move ! (3 ∷ 4 ∷ []) $ free1 ! $ free0 ! $ by ! (exits r is′ e)))))))))))))
 
 module _ {M : Type 1} (𝓤 : URA M) (H : Heap 𝓤) (A : Atoms 𝓤) (W : Given 𝓤 H A) (mem : Memory → SProp 𝓤) (run : Routine → Fun 𝓤) where
   walks : (C : Calls 𝓤 H) (Λ : Loops 𝓤 H) → FmC 𝓤 H (W .laws) C → Triple 𝓤 (C #found-at) (FoundAt 𝓤 H A mem run)

@@ -1,5 +1,5 @@
--- `code::reader::Reader::place` meets its contract: a walk of its MIR, by hand. The number is read from the struct, which is seen at exit as
--- it was passed; that the number fits its type is in the struct's relation. Assumes nothing.
+-- `code::reader::Reader::place` meets its contract: a walk of its MIR, by hand. The number is read from the struct, which is seen at
+-- exit as it was passed; that the number fits its type is in the struct's relation. Assumes nothing.
 use mathlib.Core.Path.{refl}
 use Prim.Native.Nat.{_<_, _^_}
 use mathlib.Core.List.{[], _∷_}
@@ -73,10 +73,11 @@ module _ {M : Type 1} (𝓤 : URA M) (H : Heap 𝓤) (A : Atoms 𝓤) (W : Given
         ent 𝓤 (onEntry 𝓤 H A place.signature (κ, tt) (q, tt) (d, tt) (mach ∷ [], tt)) (WpFn 𝓤 H C Λ code.function (mach ∷ []) Post)
     walk p =
         let fits = p .1 .1 .1 .0 .1 in
+        let typed = LL.lawful (T.the-type (α (κ, tt))) (T′.the-laws (α (κ, tt))) 𝓤 H A W .typed d (mach ∷ []) p .0 in
         qed W ((‵ (flft κ q) ⊛ ‵ ftrue) ∷ ‵ (owns (B (κ, tt) ∷ []) (d, tt) (mach ∷ [], tt)) ∷ []) ∵
         enter ! C Λ code.function (mach ∷ []) _ $
         alloc1 ! (λ l₀. alloc1 ! (λ l₁. alloc0 ! $ params1 ! $
-        pass1 ! (init ! 0 refl (LL.lawful (T.the-type (α (κ, tt))) (T′.the-laws (α (κ, tt))) 𝓤 H A W .typed d (mach ∷ []) p .0)) $ pass0 ! $
+        pass1 ! (init ! 0 refl typed) $ pass0 ! $
         assigns ! (of-opd ! (load ! (from ! (fld ! refl (stop !))) (look-in ! 0 (sub ! 1 refl (whole !)))))
         (from ! (stop !)) (init ! 2 refl (tt, record { fits = fits })) $
         returns ! (look ! 2 refl) $ forget ! 0 refl $ forget ! 2 refl $
