@@ -23,8 +23,9 @@ instructionOf code place Leq = rules.leq
 instructionOf code place (Put c) = rules.put (slotNumber c)
 instructionOf code place (Get c) = rules.get (slotNumber c)
 instructionOf code place (Split c a b) = rules.split (slotNumber c) (slotNumber a) (slotNumber b)
-instructionOf code place (Fork c a m p b m′ p′) = rules.fork (slotNumber c) (slotNumber a) m p (slotNumber b) m′ p′
-instructionOf code place (Plug a m p m′ p′) = rules.plug (slotNumber a) m p m′ p′
+instructionOf code place (Fork c a first b second) =
+    rules.fork (slotNumber c) (slotNumber a) (first .set) (first .place) (slotNumber b) (second .set) (second .place)
+instructionOf code place (Plug a first second) = rules.plug (slotNumber a) (first .set) (first .place) (second .set) (second .place)
 instructionOf code place (Close c) = rules.close (slotNumber c)
 instructionOf code place (Halt c) = rules.halt (slotNumber c)
 instructionOf code place (Same c d) = rules.same (slotNumber c) (slotNumber d)
