@@ -1,15 +1,16 @@
 -- Laws of `decode`, over any row of the table of forms: what the tests on the way to an answer say of it. Assumes nothing.
-use mathlib.Core.Path.{_≡_, refl, sym, ap, _∙_}
-use mathlib.Core.Bool.{Bool, true, false}
+use mathlib.Core.Path.{_≡_, refl, sym, _∙_}
+use mathlib.Core.Bool.{true, false}
 use mathlib.Core.Option.{Option, none, some}
 use mathlib.Core.List.{List, [], _∷_, _++_}
 use Prim.Native.Nat.{ℕ, _+_, _≤_, _<_}
 use native.Mathlib.Omega.{arith}
 use lib.ListN.{length}
-use lib.Dec.{eqb, leb, ltb}
+use lib.Dec.{leb}
 use borrow.Author.Tests.{lt-ltb, le-ltb, le-leb, lt-leb, ne-eqb}
 use Rattle.rules.specs.Refusal.{Row, noCause}
-use Rattle.rules.specs.Instruction.{Instruction, Name, Form, form, Decoded, Listing, nothing-listed, places-listed, slots-listed, formIn, formOf, forms, sizeOf, byteAt, listedCount, listedLength, tooFewListed, tooManyListed, placeAfter, misfits, instructionAt, decodeAs, decode}
+use Rattle.rules.specs.Instruction.{Instruction, Name, Form, form, nothing-listed, formIn, formOf, forms, sizeOf, byteAt, instructionAt}
+use Rattle.rules.specs.Instruction.{Decoded, listedCount, tooFewListed, tooManyListed, placeAfter, decodeAs, decode}
 
 -- ---- rows
 
@@ -58,20 +59,29 @@ module _ (code : List ℕ) (place : ℕ) where
         let whole = le-ltb (length code) (placeAfter code place f) fits in
         sym (rw (row, lt-leb (length code) place inside, few, many, whole))
 
-    -- one of them does
+    -- one of them does; these are the rows before it
+    abbrev place-row : Row
+    place-row = (4, leb (length code) place)
+
+    abbrev few-row : Row
+    few-row = (4, tooFewListed (f .listing) (listedCount code place f))
+
+    abbrev many-row : Row
+    many-row = (4, tooManyListed (f .listing) (listedCount code place f))
+
     pub few-listed : tooFewListed (f .listing) (listedCount code place f) ≡ true → none ≡ decode code place
     unfolding decode
-    few-listed few = sym (rw (row, few, holds ((4, leb (length code) place) ∷ []) 4 _))
+    few-listed few = sym (rw (row, few, holds (place-row ∷ []) 4 _))
 
     pub many-listed : tooManyListed (f .listing) (listedCount code place f) ≡ true → none ≡ decode code place
     unfolding decode
-    many-listed many =
-        sym (rw (row, many, holds ((4, leb (length code) place) ∷ (4, tooFewListed (f .listing) (listedCount code place f)) ∷ []) 4 _))
+    many-listed many = sym (rw (row, many, holds (place-row ∷ few-row ∷ []) 4 _))
 
     pub past-code : length code < placeAfter code place f → none ≡ decode code place
     unfolding decode
     past-code past =
-        sym (rw (row, lt-ltb (length code) (placeAfter code place f) past, holds ((4, leb (length code) place) ∷ (4, tooFewListed (f .listing) (listedCount code place f)) ∷ (4, tooManyListed (f .listing) (listedCount code place f)) ∷ []) 4 []))
+        let ends = lt-ltb (length code) (placeAfter code place f) past in
+        sym (rw (row, ends, holds (place-row ∷ few-row ∷ many-row ∷ []) 4 []))
 
   -- the place is not in the code
   pub outside : length code ≤ place → none ≡ decode code place

@@ -1,5 +1,5 @@
--- The contract of `decode` determines its answer: two answers with the same meaning, decoded at the same place, are equal. The idea: what an
--- answer means can be read back. Assumes nothing.
+-- The contract of `decode` determines its answer: two answers with the same meaning, decoded at the same place, are equal. The idea:
+-- from what an answer means the answer can be read back. Assumes nothing.
 use mathlib.Core.Path.{_≡_, refl, sym, ap, _∙_}
 use mathlib.Core.Option.{Option, none, some}
 use mathlib.Core.List.{List}
@@ -8,8 +8,10 @@ use lib.ListN.{length}
 use Rattle.rules.specs.declared.Slot.{Slot}
 use Rattle.rules.specs.Instruction as rules
 use Rattle.rules.specs.Instruction.{cst, access, store, add, mul, leq, put, get, split, fork, plug, close, halt, same, hput, hcase, run}
+use Rattle.code.specs.declared.Branch.{Branch}
 use Rattle.code.specs.declared.Instruction.{Instruction}
-use Rattle.code.specs.declared.Instruction.the-variants.{Cst, Access, Store, Add, Mul, Leq, Put, Get, Split, Fork, Plug, Close, Halt, Same, Hput, Hcase, Run}
+use Rattle.code.specs.declared.Instruction.the-variants.{Cst, Access, Store, Add, Mul, Leq, Put, Get, Split, Fork}
+use Rattle.code.specs.declared.Instruction.the-variants.{Plug, Close, Halt, Same, Hput, Hcase, Run}
 use Rattle.code.specs.declared.Decoded.{Decoded}
 use Rattle.code.specs.declared.Decoded.the-variants.{Good, Bad}
 use Rattle.code.specs.Meaning.{instructionOf, meaning}
@@ -17,6 +19,9 @@ use Rattle.code.proofs.Listing.{length-places, length-slots}
 
 slot : ℕ → Slot
 slot c = record { 0 = c }
+
+branch : ℕ → ℕ → Branch
+branch m p = record { set = m; place = p }
 
 caseOf : rules.Instruction → Instruction
 caseOf (cst v) = Cst v
@@ -28,8 +33,8 @@ caseOf leq = Leq
 caseOf (put c) = Put (slot c)
 caseOf (get c) = Get (slot c)
 caseOf (split c a b) = Split (slot c) (slot a) (slot b)
-caseOf (fork c a m p b m′ p′) = Fork (slot c) (slot a) m p (slot b) m′ p′
-caseOf (plug a m p m′ p′) = Plug (slot a) m p m′ p′
+caseOf (fork c a m p b m′ p′) = Fork (slot c) (slot a) (branch m p) (slot b) (branch m′ p′)
+caseOf (plug a m p m′ p′) = Plug (slot a) (branch m p) (branch m′ p′)
 caseOf (close c) = Close (slot c)
 caseOf (halt c) = Halt (slot c)
 caseOf (same c d) = Same (slot c) (slot d)
@@ -43,7 +48,7 @@ answerOf (some d) = Good (caseOf (d .instruction)) (d .next)
 
 module _ (code : List ℕ) (place : ℕ) where
   case-back : (i : Instruction) → caseOf (instructionOf code place i) ≡ i
-  unfolding caseOf slot
+  unfolding caseOf slot branch
   case-back (Cst v) = refl
   case-back (Access n) = refl
   case-back Store = refl
@@ -53,8 +58,8 @@ module _ (code : List ℕ) (place : ℕ) where
   case-back (Put c) = refl
   case-back (Get c) = refl
   case-back (Split c a b) = refl
-  case-back (Fork c a m p b m′ p′) = refl
-  case-back (Plug a m p m′ p′) = refl
+  case-back (Fork c a first b second) = refl
+  case-back (Plug a first second) = refl
   case-back (Close c) = refl
   case-back (Halt c) = refl
   case-back (Same c d) = refl

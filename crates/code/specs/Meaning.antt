@@ -1,5 +1,5 @@
--- What the code's answers mean: each case of the enum is an instruction of `rules`, read beside the code that it was decoded from, since the
--- places of an hcase and the slots of a run stay there. Assumes nothing.
+-- What the code's answers mean: each case of the enum is an instruction of `rules`, read beside the code that it was decoded from,
+-- since the places of an hcase and the slots of a run stay there. Assumes nothing.
 use Prim.Native.Nat.{ℕ}
 use mathlib.Core.Option.{Option, none, some}
 use mathlib.Core.List.{List}
@@ -7,7 +7,8 @@ use Rattle.rules.specs.Numbers.{slotNumber}
 use Rattle.rules.specs.Instruction as rules
 use Rattle.rules.specs.Instruction.{placesAt, slotsAt}
 use Rattle.code.specs.declared.Instruction.{Instruction}
-use Rattle.code.specs.declared.Instruction.the-variants.{Cst, Access, Store, Add, Mul, Leq, Put, Get, Split, Fork, Plug, Close, Halt, Same, Hput, Hcase, Run}
+use Rattle.code.specs.declared.Instruction.the-variants.{Cst, Access, Store, Add, Mul, Leq, Put, Get, Split, Fork}
+use Rattle.code.specs.declared.Instruction.the-variants.{Plug, Close, Halt, Same, Hput, Hcase, Run}
 use Rattle.code.specs.declared.Decoded.{Decoded}
 use Rattle.code.specs.declared.Decoded.the-variants.{Good, Bad}
 
@@ -22,8 +23,9 @@ instructionOf code place Leq = rules.leq
 instructionOf code place (Put c) = rules.put (slotNumber c)
 instructionOf code place (Get c) = rules.get (slotNumber c)
 instructionOf code place (Split c a b) = rules.split (slotNumber c) (slotNumber a) (slotNumber b)
-instructionOf code place (Fork c a m p b m′ p′) = rules.fork (slotNumber c) (slotNumber a) m p (slotNumber b) m′ p′
-instructionOf code place (Plug a m p m′ p′) = rules.plug (slotNumber a) m p m′ p′
+instructionOf code place (Fork c a first b second) =
+    rules.fork (slotNumber c) (slotNumber a) (first .set) (first .place) (slotNumber b) (second .set) (second .place)
+instructionOf code place (Plug a first second) = rules.plug (slotNumber a) (first .set) (first .place) (second .set) (second .place)
 instructionOf code place (Close c) = rules.close (slotNumber c)
 instructionOf code place (Halt c) = rules.halt (slotNumber c)
 instructionOf code place (Same c d) = rules.same (slotNumber c) (slotNumber d)
@@ -35,3 +37,8 @@ instructionOf code place (Run p n j) = rules.run p n (slotsAt code place 5 j)
 abbrev pub meaning : (code : List ℕ) (place : ℕ) → Decoded → Option rules.Decoded
 meaning code place (Good i next) = some (record { instruction = instructionOf code place i; next = next })
 meaning code place Bad = none
+
+-- the place where reading goes on: after an instruction, at the same place where there is none
+abbrev pub goesOn : (place : ℕ) → Decoded → ℕ
+goesOn place (Good i next) = next
+goesOn place Bad = place

@@ -1,16 +1,28 @@
 // The seventeen forms of document 01's table: from the first byte to the instruction with its operands. Each function asks that the fixed
 // part lies in the code; what is listed behind it is tested here.
 ghost use mathlib.Core.Path.{_≡_};
-ghost use Prim.Native.Nat.{_+_, _≤_};
+ghost use Prim.Native.Nat.{_+_, _≤_, _<_};
 ghost use lib.ListN.{length};
-ghost use Rattle.rules.specs.Instruction.{byteAt, sizeOf, formOf, instructionAt, split-name, fork-name, plug-name, decode as decodedByRules};
+ghost use Rattle.rules.specs.Instruction.{byteAt, placeAt, sizeOf, formOf, instructionAt, decode as decodedByRules};
+ghost use Rattle.rules.specs.Instruction.{split-name, fork-name, plug-name};
 ghost use Rattle.code.specs.Meaning.{instructionOf, meaning};
+use crate::Branch;
 use crate::Decoded;
 use crate::Instruction;
 use crate::operands::byte_at;
 use crate::operands::place_at;
 use crate::operands::signed_at;
 use crate::operands::slot_at;
+
+fn branch_at(code: &[u8], place: usize, k: usize) -> Branch
+    requires { ⌜ place + (k + 2) < length (now code) ⌝ }
+    ensures { λ r. ⌜ (r .set ≡ byteAt (now (code .entry)) place k) × (r .place ≡ placeAt (now (code .entry)) place (k + 1)) ⌝ }
+{
+    Branch {
+        set: byte_at(code, place, k),
+        place: place_at(code, place, k + 1),
+    }
+}
 
 fn split_at(code: &[u8], place: usize) -> Instruction
     requires { ⌜ place + 4 ≤ length (now code) ⌝ }
@@ -30,11 +42,9 @@ fn fork_at(code: &[u8], place: usize) -> Instruction
     Instruction::Fork {
         c: slot_at(code, place, 1),
         a: slot_at(code, place, 2),
-        first_set: byte_at(code, place, 3),
-        first_place: place_at(code, place, 4),
+        first: branch_at(code, place, 3),
         b: slot_at(code, place, 6),
-        second_set: byte_at(code, place, 7),
-        second_place: place_at(code, place, 8),
+        second: branch_at(code, place, 7),
     }
 }
 
@@ -44,10 +54,8 @@ fn plug_at(code: &[u8], place: usize) -> Instruction
 {
     Instruction::Plug {
         a: slot_at(code, place, 1),
-        first_set: byte_at(code, place, 2),
-        first_place: place_at(code, place, 3),
-        second_set: byte_at(code, place, 5),
-        second_place: place_at(code, place, 6),
+        first: branch_at(code, place, 2),
+        second: branch_at(code, place, 5),
     }
 }
 

@@ -11,11 +11,18 @@ mod lengths; // lengths.rt: the length of an instruction's fixed part by its fir
 mod operands; // operands.rt: bytes, places and signed numbers in the code
 mod forms; // forms.rt: the seventeen forms, each with its operands
 mod listed; // listed.rt: the places of an hcase and the slots of a run
+pub mod reader; // reader.rt: a struct that holds the code and a place
 
 pub use lengths::LENGTHS;
 pub use lengths::length_table;
 pub use listed::case_place;
 pub use listed::listed_slot;
+
+// What a branch of a fork or a plug goes on with: its set of slots, bit i for slot i, and its place.
+pub struct Branch {
+    pub set: u8,
+    pub place: u16,
+}
 
 // One case for each row of document 01's table. The places of an hcase and the slots of a run stay in the code.
 pub enum Instruction {
@@ -35,18 +42,14 @@ pub enum Instruction {
     Fork {
         c: Slot,
         a: Slot,
-        first_set: u8,
-        first_place: u16,
+        first: Branch,
         b: Slot,
-        second_set: u8,
-        second_place: u16,
+        second: Branch,
     },
     Plug {
         a: Slot,
-        first_set: u8,
-        first_place: u16,
-        second_set: u8,
-        second_place: u16,
+        first: Branch,
+        second: Branch,
     },
     Close(Slot),
     Halt(Slot),

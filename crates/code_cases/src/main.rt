@@ -184,6 +184,37 @@ fn listed_slots(table: &[u8; 256])
     show(table, b"run, j 255, one byte short", &many[..259], 0);
 }
 
+// One line of what a reader finds at a place; answers where reading goes on.
+fn read_line(table: &[u8; 256], bytes: &[u8], place: usize) -> usize
+    requires { ⌜ now table ≡ lengths ⌝ }
+{
+    text(b"reading on at");
+    number(place as u64);
+    text(b":");
+    let found = code::reader::read(table, bytes, place);
+    match found {
+        Decoded::Good(i, next) => {
+            instruction(bytes, place, i);
+            text(b"\n");
+            next
+        }
+        Decoded::Bad => {
+            text(b" bad\n");
+            place
+        }
+    }
+}
+
+fn forward(table: &[u8; 256])
+    requires { ⌜ now table ≡ lengths ⌝ }
+{
+    let bytes = b"\x01\x00\x00\x00\x04\x10\x00\x16\x00";
+    let second = read_line(table, bytes, 0);
+    let third = read_line(table, bytes, second);
+    let end = read_line(table, bytes, third);
+    read_line(table, bytes, end);
+}
+
 fn main() {
     let table = code::length_table();
     signed_numbers(&table);
@@ -196,4 +227,5 @@ fn main() {
     last_bytes(&table);
     listed_places(&table);
     listed_slots(&table);
+    forward(&table);
 }

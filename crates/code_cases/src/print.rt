@@ -1,4 +1,5 @@
 // An instruction as text: its name, then its operands in the order of document 01's table, then what it lists.
+use code::Branch;
 use code::Instruction;
 use rules::Slot;
 
@@ -24,10 +25,9 @@ fn value(v: i32) {
     }
 }
 
-// A slot's set and place: what a branch of a fork or a plug goes on with.
-fn branch(set: u8, place: u16) {
-    number(set as u64);
-    number(place as u64);
+fn branch(b: Branch) {
+    number(b.set as u64);
+    number(b.place as u64);
 }
 
 fn named(name: &[u8], c: Slot) {
@@ -47,72 +47,82 @@ fn slots(bytes: &[u8], place: usize, j: u8) {
     }
 }
 
+fn cst(v: i32) {
+    text(b" cst");
+    value(v);
+}
+
+fn access(n: u8) {
+    text(b" access");
+    number(n as u64);
+}
+
+fn split(c: Slot, a: Slot, b: Slot) {
+    named(b" split", c);
+    slot(a);
+    slot(b);
+}
+
+fn fork(c: Slot, a: Slot, first: Branch, b: Slot, second: Branch) {
+    named(b" fork", c);
+    slot(a);
+    branch(first);
+    slot(b);
+    branch(second);
+}
+
+fn plug(a: Slot, first: Branch, second: Branch) {
+    named(b" plug", a);
+    branch(first);
+    branch(second);
+}
+
+fn same(c: Slot, d: Slot) {
+    named(b" same", c);
+    slot(d);
+}
+
+fn hput(c: Slot, n: u8) {
+    named(b" hput", c);
+    number(n as u64);
+}
+
+fn hcase(bytes: &[u8], place: usize, c: Slot, k: u8) {
+    named(b" hcase", c);
+    places(bytes, place, k);
+}
+
+fn run(bytes: &[u8], place: usize, at: u16, n: u8, j: u8) {
+    text(b" run");
+    number(at as u64);
+    number(n as u64);
+    slots(bytes, place, j);
+}
+
 pub fn instruction(bytes: &[u8], place: usize, i: Instruction) {
     match i {
-        Instruction::Cst(v) => {
-            text(b" cst");
-            value(v);
-        }
-        Instruction::Access(n) => {
-            text(b" access");
-            number(n as u64);
-        }
+        Instruction::Cst(v) => cst(v),
+        Instruction::Access(n) => access(n),
         Instruction::Store => text(b" store"),
         Instruction::Add => text(b" add"),
         Instruction::Mul => text(b" mul"),
         Instruction::Leq => text(b" leq"),
         Instruction::Put(c) => named(b" put", c),
         Instruction::Get(c) => named(b" get", c),
-        Instruction::Split { c, a, b } => {
-            named(b" split", c);
-            slot(a);
-            slot(b);
-        }
+        Instruction::Split { c, a, b } => split(c, a, b),
         Instruction::Fork {
             c,
             a,
-            first_set,
-            first_place,
+            first,
             b,
-            second_set,
-            second_place,
-        } => {
-            named(b" fork", c);
-            slot(a);
-            branch(first_set, first_place);
-            slot(b);
-            branch(second_set, second_place);
-        }
-        Instruction::Plug {
-            a,
-            first_set,
-            first_place,
-            second_set,
-            second_place,
-        } => {
-            named(b" plug", a);
-            branch(first_set, first_place);
-            branch(second_set, second_place);
-        }
+            second,
+        } => fork(c, a, first, b, second),
+        Instruction::Plug { a, first, second } => plug(a, first, second),
         Instruction::Close(c) => named(b" close", c),
         Instruction::Halt(c) => named(b" halt", c),
-        Instruction::Same(c, d) => {
-            named(b" same", c);
-            slot(d);
-        }
-        Instruction::Hput(c, n) => {
-            named(b" hput", c);
-            number(n as u64);
-        }
-        Instruction::Hcase(c, k) => {
-            named(b" hcase", c);
-            places(bytes, place, k);
-        }
-        Instruction::Run(at, n, j) => {
-            text(b" run");
-            number(at as u64);
-            number(n as u64);
-            slots(bytes, place, j);
-        }
+        Instruction::Same(c, d) => same(c, d),
+        Instruction::Hput(c, n) => hput(c, n),
+        Instruction::Hcase(c, k) => hcase(bytes, place, c, k),
+        Instruction::Run(at, n, j) => run(bytes, place, at, n, j),
     }
 }

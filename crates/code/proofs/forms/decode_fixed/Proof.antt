@@ -1,5 +1,5 @@
--- `code::forms::decode_fixed` meets its contract: each arm is the law of `fixed` at the row of its first byte, and past all arms no row has
--- the byte. Assumes nothing.
+-- `code::forms::decode_fixed` meets its contract: each arm is the law of `fixed` at the row of its first byte, and past all arms no row
+-- has the byte. Assumes nothing.
 use mathlib.Core.Path.{_≡_, refl, sym, ap, _∙_}
 use mathlib.Core.Option.{some}
 use Prim.Native.Nat.{ℕ, _+_, _≤_, _<_}
@@ -8,9 +8,9 @@ use borrow.Author.Needs.{needs}
 use lib.ListN.{length}
 use mir.Syntax.{w32}
 use mir.Facts.{toZ-ofZ}
-use Rattle.rules.specs.Instruction.{Instruction, Name, form, nothing-listed, formOf, formIn, forms, sizeOf, byteAt, instructionAt, decode}
+use Rattle.rules.specs.Instruction.{Instruction, Name, form, nothing-listed, formOf, formIn, sizeOf, byteAt, instructionAt, decode}
 use Rattle.rules.specs.Instruction.{cst, access, put, get, close, halt, same, hput}
-use Rattle.code.proofs.Decoding.{NoneHas, fixed, begins-none}
+use Rattle.code.proofs.Decoding.{fixed, begins-none}
 use Rattle.code.proofs.forms.decode_fixed.Statement.{statement}
 use Rattle.code.proofs.forms.decode_fixed.Tie as tie
 
@@ -24,7 +24,11 @@ ends s b size key =
     let place = s .args .place in
     s .pre .1 .0 ∙ ap (λ (x : ℕ). place + sizeOf (formOf x)) key ∙ ap (λ (n : ℕ). place + n) size
 
-room : (s : tie.Start) (b : ℕ) {size : ℕ} → sizeOf (formOf b) ≡ size → s .args .first ≡ b → s .args .place + size ≤ length (s .args .code .now)
+room :
+    (s : tie.Start) (b : ℕ) {size : ℕ}
+    → sizeOf (formOf b) ≡ size
+    → s .args .first ≡ b
+    → s .args .place + size ≤ length (s .args .code .now)
 room s b size key = omega (arith, ends s b size key, s .pre .1 .1)
 
 arm :
@@ -162,11 +166,15 @@ returns-13 c = arm (c .before .before .before) 0x16 refl (omega arith) (c .befor
 
 returns-14 : tie.Need-returns-14
 unfolding formOf formIn instructionAt
-returns-14 c = arm (c .before .before .before .before) 0x17 refl (omega arith) (c .before .before .match .keys14) (λ i. same (c .before .slot-at5 .ensures i) (c .slot-at6 .ensures i))
+returns-14 c =
+    arm (c .before .before .before .before) 0x17 refl (omega arith) (c .before .before .match .keys14)
+    (λ i. same (c .before .slot-at5 .ensures i) (c .slot-at6 .ensures i))
 
 returns-15 : tie.Need-returns-15
 unfolding formOf formIn instructionAt
-returns-15 c = arm (c .before .before .before .before) 0x18 refl (omega arith) (c .before .before .match .keys15) (λ i. hput (c .before .slot-at7 .ensures i) (c .byte-at2 .ensures i))
+returns-15 c =
+    arm (c .before .before .before .before) 0x18 refl (omega arith) (c .before .before .match .keys15)
+    (λ i. hput (c .before .slot-at7 .ensures i) (c .byte-at2 .ensures i))
 
 returns-16 : tie.Need-returns-16
 returns-16 c = search needs

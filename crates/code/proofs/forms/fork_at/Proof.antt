@@ -1,4 +1,4 @@
--- `code::forms::fork_at` meets its contract: three slots, two sets and two places, each where the form has it. Assumes nothing.
+-- `code::forms::fork_at` meets its contract: three slots and two branches, each where the form has it. Assumes nothing.
 use borrow.Author.Needs.{needs}
 use Rattle.rules.specs.Instruction.{instructionAt}
 use Rattle.code.proofs.forms.fork_at.Statement.{statement}
@@ -10,20 +10,14 @@ slot-at-requires c κs = search needs
 slot-at-requires-2 : tie.Need-slot-at-requires-2
 slot-at-requires-2 c κs = search needs
 
-byte-at-requires : tie.Need-byte-at-requires
-byte-at-requires c κs = search needs
-
-place-at-requires : tie.Need-place-at-requires
-place-at-requires c κs = search needs
+branch-at-requires : tie.Need-branch-at-requires
+branch-at-requires c κs = search needs
 
 slot-at-requires-3 : tie.Need-slot-at-requires-3
 slot-at-requires-3 c κs = search needs
 
-byte-at-requires-2 : tie.Need-byte-at-requires-2
-byte-at-requires-2 c κs = search needs
-
-place-at-requires-2 : tie.Need-place-at-requires-2
-place-at-requires-2 c κs = search needs
+branch-at-requires-2 : tie.Need-branch-at-requires-2
+branch-at-requires-2 c κs = search needs
 
 returns : tie.Need-returns
 unfolding instructionAt
@@ -35,9 +29,7 @@ fork-at-spec =
     (tie.spec
     slot-at-requires
     slot-at-requires-2
-    byte-at-requires
-    place-at-requires
+    branch-at-requires
     slot-at-requires-3
-    byte-at-requires-2
-    place-at-requires-2
+    branch-at-requires-2
     returns)

@@ -1,6 +1,6 @@
 -- `code::forms::hcase_at` meets its contract: k is tested from below, from above and against the length of the code, and each answer is a
 -- law of the row of hcase. Assumes nothing.
-use mathlib.Core.Path.{_≡_, refl, sym, _∙_}
+use mathlib.Core.Path.{_≡_, sym, _∙_}
 use mathlib.Core.Option.{some}
 use Prim.Native.Nat.{_+_, _*_}
 use native.Mathlib.Omega.{arith}

@@ -1,4 +1,4 @@
--- `code::forms::plug_at` meets its contract: a slot, two sets and two places, each where the form has it. Assumes nothing.
+-- `code::forms::plug_at` meets its contract: a slot and two branches, each where the form has it. Assumes nothing.
 use borrow.Author.Needs.{needs}
 use Rattle.rules.specs.Instruction.{instructionAt}
 use Rattle.code.proofs.forms.plug_at.Statement.{statement}
@@ -7,17 +7,11 @@ use Rattle.code.proofs.forms.plug_at.Tie as tie
 slot-at-requires : tie.Need-slot-at-requires
 slot-at-requires c κs = search needs
 
-byte-at-requires : tie.Need-byte-at-requires
-byte-at-requires c κs = search needs
+branch-at-requires : tie.Need-branch-at-requires
+branch-at-requires c κs = search needs
 
-place-at-requires : tie.Need-place-at-requires
-place-at-requires c κs = search needs
-
-byte-at-requires-2 : tie.Need-byte-at-requires-2
-byte-at-requires-2 c κs = search needs
-
-place-at-requires-2 : tie.Need-place-at-requires-2
-place-at-requires-2 c κs = search needs
+branch-at-requires-2 : tie.Need-branch-at-requires-2
+branch-at-requires-2 c κs = search needs
 
 returns : tie.Need-returns
 unfolding instructionAt
@@ -25,11 +19,4 @@ returns c = cc
 
 pub plug-at-spec : {M : Type 1} → statement M
 plug-at-spec =
-    tie.close
-    (tie.spec
-    slot-at-requires
-    byte-at-requires
-    place-at-requires
-    byte-at-requires-2
-    place-at-requires-2
-    returns)
+    tie.close (tie.spec slot-at-requires branch-at-requires branch-at-requires-2 returns)

@@ -1,5 +1,5 @@
--- `code::lengths::length_table` meets its contract: the constant's 256 rows are the lengths of the definition, computed once over the whole
--- table. Assumes nothing.
+-- `code::lengths::length_table` meets its contract: the constant's 256 rows are the lengths of the definition, computed once over the
+-- whole table. Assumes nothing.
 use mathlib.Core.Path.{refl}
 use Rattle.rules.specs.Bytes.{table}
 use Rattle.rules.specs.Instruction.{lengths, formOf, formIn}

@@ -1,5 +1,5 @@
--- `code::operands::signed` meets its contract. From 2^31 on the complement of the bits is small enough to be a number, and the complement of
--- that number has the bits again. Assumes nothing.
+-- `code::operands::signed` meets its contract. From 2^31 on the complement of the bits is small enough to be a number, and the
+-- complement of that number has the bits again. Assumes nothing.
 use mathlib.Core.Path.{_≡_, ap}
 use Prim.Native.Nat.{ℕ, _-_}
 use native.Mathlib.Omega.{arith}
