@@ -12,8 +12,8 @@ ghost use Rattle.rules.specs.Numbers.{slotNumber, endNumber};
 ghost use Rattle.registers.specs.Registers.{registersOf, pushed, popped, stored, combined, movedTo, withSlots};
 use crate::Registers;
 use crate::values;
-use rules::Slot;
 use rules::End;
+use rules::Slot;
 
 // The top value and the registers without it.
 pub struct Popped {

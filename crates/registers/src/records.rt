@@ -79,7 +79,14 @@ pub fn environment_value(m: &[u8], r: Record, n: u8) -> i32
 }
 
 // The numbers at the front of a record.
-fn write_numbers(m: &mut [u8], at: usize, status: u8, place: u16, stack_count: u8, environment_count: u8)
+fn write_numbers(
+    m: &mut [u8],
+    at: usize,
+    status: u8,
+    place: u16,
+    stack_count: u8,
+    environment_count: u8,
+)
     requires { ⌜ at + 5 ≤ length (now m) ⌝ }
     ensures { λ _. ⌜ now (m .exit) ≡ putAt (now (m .entry)) at
         (status ∷ (bytesOf 2 place ++ («stack_count» ∷ «environment_count» ∷ []))) ⌝ }

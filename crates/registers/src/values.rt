@@ -16,8 +16,22 @@ pub fn in_front(v: i32, values: [i32; 16]) -> [i32; 16]
     ensures { λ r. ⌜ ((l : List Value) → values ≡ pad stackDepth (pos 0) l → r ≡ pad stackDepth (pos 0) (v ∷ l)) ⌝ }
 {
     [
-        v, values[0], values[1], values[2], values[3], values[4], values[5], values[6],
-        values[7], values[8], values[9], values[10], values[11], values[12], values[13], values[14],
+        v,
+        values[0],
+        values[1],
+        values[2],
+        values[3],
+        values[4],
+        values[5],
+        values[6],
+        values[7],
+        values[8],
+        values[9],
+        values[10],
+        values[11],
+        values[12],
+        values[13],
+        values[14],
     ]
 }
 
@@ -27,8 +41,22 @@ pub fn behind_first(values: [i32; 16]) -> [i32; 16]
         → r ≡ pad stackDepth (pos 0) (drop 1 l)) ⌝ }
 {
     [
-        values[1], values[2], values[3], values[4], values[5], values[6], values[7], values[8],
-        values[9], values[10], values[11], values[12], values[13], values[14], values[15], 0,
+        values[1],
+        values[2],
+        values[3],
+        values[4],
+        values[5],
+        values[6],
+        values[7],
+        values[8],
+        values[9],
+        values[10],
+        values[11],
+        values[12],
+        values[13],
+        values[14],
+        values[15],
+        0,
     ]
 }
 

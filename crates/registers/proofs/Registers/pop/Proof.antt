@@ -28,9 +28,10 @@ array-copy-out-t7 c = search needs
 returns : tie.Need-returns
 returns c g n e =
     let at-rest = c .before .before in
-    let h = holds g e in
-    (toZ-ofZ (record { sfits = c .t7 .given }) ∙ first-is (g .stack) (h .stack-is),
-    held _ (with-stack g h (drop 1 (g .stack)) (one-less (g .stack) (h .stack-count-is)) (at-rest .behind-first .ensures (g .stack) n (h .stack-is))))
+    let h = holds g e in (
+      toZ-ofZ (record { sfits = c .t7 .given }) ∙ first-is (g .stack) (h .stack-is),
+      held _ (with-stack g h (drop 1 (g .stack)) (one-less (g .stack) (h .stack-count-is)) (at-rest .behind-first .ensures (g .stack) n (h .stack-is))),
+    )
 
 pub pop-spec : {M : Type 1} → statement M
 pop-spec = tie.close (tie.spec behind-first-requires sub-self array-copy-out-t7 returns)

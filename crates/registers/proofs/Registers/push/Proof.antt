@@ -19,9 +19,9 @@ returns : tie.Need-returns
 returns c = (
   omega arith,
   λ g e.
-  let s = c .before .before .before in
-  let h = holds g e in
-  held _ (with-stack g h (s .args .v ∷ g .stack) (one-more (s .args .v) (g .stack) (h .stack-count-is)) (c .before .in-front .ensures (g .stack) (h .stack-is) ∙ front-is (g .stack) (toZ-ofZ (s .fits .v)))),
+      let s = c .before .before .before in
+      let h = holds g e in
+      held _ (with-stack g h (s .args .v ∷ g .stack) (one-more (s .args .v) (g .stack) (h .stack-count-is)) (c .before .in-front .ensures (g .stack) (h .stack-is) ∙ front-is (g .stack) (toZ-ofZ (s .fits .v)))),
 )
 
 pub push-spec : {M : Type 1} → statement M

@@ -88,16 +88,16 @@ returns c st z w e =
     (record {
       place-is = at-get16 .get16 .ensures ∙ record-read st z r h e p 2 1 (omega arith) ∙ place-read (statusByte x) g within;
       stack-count-is =
-      at-counts .before .get8 .ensures ∙ byte-read st z r h e p 3 (omega arith) ∙ stack-count-read (statusByte x) g;
+          at-counts .before .get8 .ensures ∙ byte-read st z r h e p 3 (omega arith) ∙ stack-count-read (statusByte x) g;
       environment-count-is =
-      at-counts .get82 .ensures ∙ byte-read st z r h e p 4 (omega arith) ∙ environment-count-read (statusByte x) g;
+          at-counts .get82 .ensures ∙ byte-read st z r h e p 4 (omega arith) ∙ environment-count-read (statusByte x) g;
       slots-are = at-slots .read .ensures ∙ slots-read st z r h e p;
       stack-is =
-      at-stack .read2 .ensures
-      ∙ values-read st z r h e p stackFrom (g .stack) (omega arith) (stack-read (statusByte x) g within);
+          at-stack .read2 .ensures
+          ∙ values-read st z r h e p stackFrom (g .stack) (omega arith) (stack-read (statusByte x) g within);
       environment-is =
-      c .read3 .ensures
-      ∙ values-read st z r h e p environmentFrom (g .environment) (omega arith) (environment-read (statusByte x) g within);
+          c .read3 .ensures
+          ∙ values-read st z r h e p environmentFrom (g .environment) (omega arith) (environment-read (statusByte x) g within);
     })
 
 pub load-spec : {M : Type 1} → statement M

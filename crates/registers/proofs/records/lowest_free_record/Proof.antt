@@ -44,10 +44,12 @@ loop-again : tie.Need-loop-again Inv-loop μ-loop
 loop-again c =
     let at-status = c .before in
     let at-loop = at-status .before .before in
-    let k = at-loop .loop .k in
-    (omega arith, λ st z e.
-    more-in-use st k (at-loop .loop .inv .1 st z e)
-    (in-use (recordAt st k) (at-status .status-of .ensures st z e) (not-free (c .match .keys2))))
+    let k = at-loop .loop .k in (
+      omega arith,
+      λ st z e.
+          more-in-use st k (at-loop .loop .inv .1 st z e)
+          (in-use (recordAt st k) (at-status .status-of .ensures st z e) (not-free (c .match .keys2))),
+    )
 
 returns-2 : tie.Need-returns-2 Inv-loop μ-loop
 returns-2 c st z e = none-free st z (λ j h. c .before .loop .inv .1 st z e j (omega arith))

@@ -1,0 +1,35 @@
+-- The cases of the instructions on numbers, over plain variables: which test leads to which answer. Assumes nothing.
+use mathlib.Core.Path.{_≡_}
+use mathlib.Core.Bool.{true, false}
+use mathlib.Core.List.{_∷_}
+use Prim.Native.Nat.{ℕ}
+use lib.ListN.{drop}
+use Rattle.rules.specs.State.{State, Value, Registers, registers, running, setRecord}
+use Rattle.rules.specs.Refusal.{refused, done, unless}
+use Rattle.rules.specs.Instruction.{cst, store}
+use Rattle.rules.specs.Causes.{top, fewer, stackFull, environmentFull, ownCauses, sharedCauses}
+use Rattle.rules.specs.RecordStep.{after}
+use Rattle.rules.specs.Ask.{answerTo}
+
+module _ (st : State) (r next : ℕ) (g : Registers) where
+  pub cst-full : (v : Value) → stackFull g ≡ true → answerTo st r next g (cst v) ≡ refused 6
+  unfolding answerTo ownCauses sharedCauses unless
+  cst-full v t = rw t
+
+  pub cst-done : (v : Value) → stackFull g ≡ false
+      → answerTo st r next g (cst v) ≡ done (setRecord st r (running (registers next (v ∷ g .stack) (g .environment) (g .slots))))
+  unfolding answerTo ownCauses sharedCauses unless after
+  cst-done v f = rw f
+
+  pub store-few : fewer 1 g ≡ true → answerTo st r next g store ≡ refused 5
+  unfolding answerTo ownCauses sharedCauses unless
+  store-few t = rw t
+
+  pub store-full : fewer 1 g ≡ false → environmentFull g ≡ true → answerTo st r next g store ≡ refused 6
+  unfolding answerTo ownCauses sharedCauses unless
+  store-full f t = rw (f, t)
+
+  pub store-done : fewer 1 g ≡ false → environmentFull g ≡ false
+      → answerTo st r next g store ≡ done (setRecord st r (running (registers next (drop 1 (g .stack)) (top g ∷ g .environment) (g .slots))))
+  unfolding answerTo ownCauses sharedCauses unless after
+  store-done f f′ = rw (f, f′)

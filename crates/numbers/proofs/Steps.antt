@@ -1,0 +1,50 @@
+-- What the instructions share: the registers that are loaded from a sound memory are those of the running record, a refusal leaves the memory
+-- as it was, and registers saved are the state after. Assumes nothing.
+use mathlib.Core.Path.{_≡_, refl, sym, ap, _∙_, subst}
+use mathlib.Core.List.{List}
+use Prim.Native.Nat.{ℕ}
+use lib.ListN.{length}
+use Rattle.rules.specs.State.{State, Registers as Process, RecordState, running, recordAt}
+use Rattle.rules.specs.Refusal.{Answer, refused, done}
+use Rattle.rules.specs.Layout.{layout, view}
+use Rattle.rules.specs.Sound.{RegistersWithin, RecordWithin}
+use Rattle.rules.specs.Calls.{layoutOr}
+use Rattle.rules.specs.Numbers.{replyTo}
+use Rattle.rules.specs.Promise.{Promise}
+use Rattle.rules.specs.declared.Reply.the-variants.{Done, Refused}
+use Rattle.keeping.specs.Demand3.{SoundMemory}
+use Rattle.keeping.proofs.LayoutLaws.{Sized}
+use Rattle.registers.specs.declared.Registers.{Registers}
+use Rattle.registers.specs.Registers.{registersOf, registersIn}
+
+-- ---- replies
+
+pub refused-step : {a : Answer State} {m : List ℕ} (n : ℕ) → a ≡ refused n → Promise (replyTo a) (layoutOr m a) (Refused n) m
+refused-step {m = m} n e = record { answer-is = ap replyTo (sym e); memory-is = ap (layoutOr m) (sym e) }
+
+pub done-step : {a : Answer State} (m : List ℕ) {left : List ℕ} (st : State) → a ≡ done st → left ≡ layout st → Promise (replyTo a) (layoutOr m a) Done left
+done-step m st e q = record { answer-is = ap replyTo (sym e); memory-is = q ∙ ap (layoutOr m) (sym e) }
+
+-- ---- a running record of a sound memory
+
+module _ (m : List ℕ) (s : SoundMemory m) (r : ℕ) (g : Process) (is : recordAt (view m) r ≡ running g) where
+  pub sized : Sized (view m)
+  sized = record { records-sized = s .state-sound .S1 .record-count; ends-sized = s .state-sound .S1 .end-count }
+
+  pub registers-ok : RegistersWithin g
+  registers-ok = subst RecordWithin is (s .state-sound .S1 .records-within r)
+
+  -- what `load` promises, of this memory
+  pub held-is : {x : Registers}
+      → ((st : State) → Sized st → RecordWithin (recordAt st r) → m ≡ layout st → x ≡ registersOf (registersIn (recordAt st r))) → x ≡ registersOf g
+  held-is f = f (view m) sized (s .state-sound .S1 .records-within r) (s .laid-out) ∙ ap (λ (y : RecordState). registersOf (registersIn y)) is
+
+-- ---- counts
+
+pub stack-count : {x : Registers} (g : Process) → x ≡ registersOf g → x .«stack_count» ≡ length (g .stack)
+unfolding registersOf
+stack-count g e = ap (λ (y : Registers). y .«stack_count») e
+
+pub environment-count : {x : Registers} (g : Process) → x ≡ registersOf g → x .«environment_count» ≡ length (g .environment)
+unfolding registersOf
+environment-count g e = ap (λ (y : Registers). y .«environment_count») e

@@ -1,0 +1,98 @@
+-- store: 5, 6, or the top in front of the environment. Assumes nothing.
+use mathlib.Core.Path.{_≡_, sym, ap, _∙_}
+use mathlib.Core.Bool.{true, false}
+use Prim.Native.Nat.{ℕ, _≤_, _<_}
+use native.Mathlib.Omega.{arith}
+use lib.ListN.{length}
+use borrow.Author.Needs.{needs}
+use borrow.Author.Tests.{le-leb, lt-leb, lt-ltb, le-ltb}
+use Rattle.rules.specs.Limits.{environmentDepth}
+use Rattle.rules.specs.State.{Registers as Process, running, recordAt}
+use Rattle.rules.specs.Layout.{view}
+use Rattle.keeping.proofs.Memories.{memory-length}
+use Rattle.registers.specs.Registers.{registersOf, stored}
+use Rattle.numbers.proofs.Steps.{refused-step, done-step, sized, registers-ok, held-is, stack-count, environment-count}
+use Rattle.numbers.proofs.Cases.{store-few, store-full, store-done}
+use Rattle.numbers.proofs.store.Statement.{statement}
+use Rattle.numbers.proofs.store.Tie as tie
+
+load-requires : tie.Need-load-requires
+load-requires c κs = let at-start = c .before .before in (memory-length _ (at-start .pre .0), at-start .pre .1)
+
+same-length : tie.Need-same-length
+same-length c = search needs
+
+-- the registers that are loaded
+held : (c : tie.After-load) (g : Process)
+    → recordAt (view (c .before .before .before .args .m .now)) (c .before .before .before .args .r .0) ≡ running g
+    → c .load .result ≡ registersOf g
+held c g is =
+    let at-start = c .before .before .before in held-is (at-start .args .m .now) (at-start .pre .0) _ g is (c .load .ensures)
+
+returns : tie.Need-returns
+returns c g is =
+    let at-load = c .before .before in
+    let a = at-load .before .before .before .args in
+    let few : length (g .stack) < 1 = omega (arith, c .if1 .taken, stack-count g (held at-load g is)) in
+    refused-step 5 (store-few (view (a .m .now)) _ _ g (lt-ltb (length (g .stack)) 1 few))
+
+same-length-2 : tie.Need-same-length-2
+same-length-2 c = search needs
+
+returns-2 : tie.Need-returns-2
+returns-2 c g is =
+    let at-if1 = c .before .before in
+    let at-load = at-if1 .before .before in
+    let a = at-load .before .before .before .args in
+    let x = held at-load g is in
+    let enough = le-ltb (length (g .stack)) 1 (omega (arith, at-if1 .if1 .left, stack-count g x)) in
+    let full : environmentDepth ≤ length (g .environment) = omega (arith, c .if2 .taken, environment-count g x) in
+    refused-step 6 (store-full (view (a .m .now)) _ _ g enough (le-leb environmentDepth (length (g .environment)) full))
+
+store-requires : tie.Need-store-requires
+store-requires c κs = search needs
+
+at-requires : tie.Need-at-requires
+at-requires c κs = search needs
+
+save-running-requires : tie.Need-save-running-requires
+save-running-requires c κs =
+    let at-start = c .before .before .before .before .before .before .before .before .before .before in
+    (memory-length _ (at-start .pre .0), at-start .pre .1)
+
+same-length-3 : tie.Need-same-length-3
+same-length-3 c = search needs
+
+returns-3 : tie.Need-returns-3
+returns-3 c g is =
+    let at-save = c .before .before in
+    let at-at = at-save .before in
+    let at-store = at-at .before .before in
+    let at-if2 = at-store .before in
+    let at-if1 = at-if2 .before .before in
+    let at-load = at-if1 .before .before in
+    let at-start = at-load .before .before .before in
+    let m = at-start .args .m .now in
+    let s = at-start .pre .0 in
+    let x = held at-load g is in
+    let enough = le-ltb (length (g .stack)) 1 (omega (arith, at-if1 .if1 .left, stack-count g x)) in
+    let room = lt-leb environmentDepth (length (g .environment)) (omega (arith, at-if2 .if2 .left, environment-count g x)) in
+    let within = registers-ok m s _ g is .stack-within in
+    let moved = at-at .at .ensures (stored g) (at-store .store .ensures g within x) in
+    done-step m _ (store-done (view m) _ _ g enough room)
+    (at-save .save-running .ensures (view m) _ (sized m s _ g is) (s .laid-out) moved)
+
+pub store-spec : {M : Type 1} → statement M
+store-spec =
+    tie.close
+    (tie.spec
+    load-requires
+    same-length
+    returns
+    same-length-2
+    returns-2
+    store-requires
+    at-requires
+    save-running-requires
+    same-length-3
+    returns-3)
