@@ -1,0 +1,2 @@
+// The ends of the state memory.
+pub mod word;
