@@ -1,2 +1,3 @@
 // The ends of the state memory.
 pub mod word;
+pub mod item;
