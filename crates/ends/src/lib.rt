@@ -1,3 +1,4 @@
 // The ends of the state memory.
 pub mod word;
 pub mod item;
+mod section;
