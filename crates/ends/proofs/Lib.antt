@@ -1,3 +1,5 @@
 pub mod Words
 pub mod Items
 pub mod Cells
+pub mod Queues
+pub mod Shown

@@ -2,3 +2,4 @@
 pub mod word;
 pub mod item;
 mod section;
+pub mod end;

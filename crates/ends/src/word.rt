@@ -5,21 +5,10 @@ ghost use Prim.Native.Nat.{_^_, _<_};
 ghost use lib.ListN.{length, getD, drop};
 ghost use Rattle.rules.specs.Limits.{endCount};
 ghost use Rattle.rules.specs.State.{State, EndState, free-end, isFreeEnd, endAt, setEnd};
-ghost use Rattle.rules.specs.Layout.{stateSize, freeWord, layout};
+ghost use Rattle.rules.specs.Layout.{freeWord};
 ghost use Rattle.keeping.proofs.LayoutLaws.{Sized};
 ghost use Rattle.ends.specs.Words.{endsIn, FourLowest};
 use rules::End;
-use words::get64;
-
-const FREE_AT: usize = 12670;
-
-// The word of free ends.
-pub fn free_word(m: &[u8]) -> u64
-    requires { ⌜ length (now m) ≡ stateSize ⌝ }
-    ensures { λ r. ⌜ ((st : State) → Sized st → now (m .entry) ≡ layout st → r ≡ freeWord (st .ends)) ⌝ }
-{
-    get64(m, FREE_AT)
-}
 
 // How many ends are free.
 pub fn count(word: u64) -> u8
