@@ -33,6 +33,10 @@ length-queue-cells free-end = refl
 length-queue-cells (used m ds none) = omega (arith, length-append (map datumCell ds) [], length-map ds datumCell)
 length-queue-cells (used m ds (some l)) = omega (arith, length-append (map datumCell ds) (lastCell l ∷ []), length-map ds datumCell)
 
+pub queue-within : (x : EndState) → EndFits x → queueLength x ≤ queueDepth
+queue-within free-end f = omega arith
+queue-within (used m ds l) f = f .within .0
+
 -- ---- every cell fits
 
 item-fits : (x : Item) → ItemFits x → itemCell x < 256 ^ cellSize

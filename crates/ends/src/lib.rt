@@ -3,3 +3,4 @@ pub mod word;
 pub mod item;
 mod section;
 pub mod end;
+pub mod change;
