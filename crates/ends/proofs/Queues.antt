@@ -1,0 +1,109 @@
+-- The cells of one end's queue: as many as there are items, each fits, the first holds the head, and the last one's kind says whether it is a last
+-- item. Assumes nothing.
+use mathlib.Core.Path.{_≡_, refl, sym, ap, _∙_}
+use mathlib.Core.Bool.{true, false}
+use mathlib.Core.Option.{Option, none, some}
+use mathlib.Core.List.{List, [], _∷_, _++_, map, append-nil}
+use Prim.Native.Nat.{ℕ, zero, suc, _+_, _-_, _*_, _%_, _^_, _≤_, _<_}
+use native.Mathlib.Omega.{arith}
+use lib.Dec.{leb}
+use lib.ListN.{length, getD, length-append, length-map, List·getD-append}
+use lib.Seq.{getD-at}
+use borrow.Author.Tests.{le-leb, lt-leb}
+use mir.Syntax.{w32}
+use mir.Val.{ofZ}
+use mir.Facts.{fits-ofZ}
+use Rattle.rules.specs.Limits.{queueDepth}
+use Rattle.rules.specs.Bytes.{pad}
+use Rattle.rules.specs.State.{Datum, value, handle, Last, split-item, close-item, wait-item, Item, datum, last, EndState, free-end, used, queueLength, headOf, lastOf}
+use Rattle.rules.specs.Layout.{cellSize, datumCell, lastCell, lastCells, queueCells}
+use Rattle.rules.specs.Sound.{DatumWithin}
+use Rattle.words.proofs.Pads.{getD-pad, pad-all}
+use Rattle.keeping.proofs.ViewLaws.{LastFits}
+use Rattle.memory.specs.Sections.{cellsOf}
+use Rattle.ends.specs.Items.{ItemFits, itemCell, cellItem}
+use Rattle.ends.specs.Ends.{EndFits, isGiven}
+use Rattle.ends.proofs.Items.{cell-item, cell-none}
+
+-- ---- lengths
+
+pub length-queue-cells : (x : EndState) → length (queueCells x) ≡ queueLength x
+unfolding queueCells lastCells
+length-queue-cells free-end = refl
+length-queue-cells (used m ds none) = omega (arith, length-append (map datumCell ds) [], length-map ds datumCell)
+length-queue-cells (used m ds (some l)) = omega (arith, length-append (map datumCell ds) (lastCell l ∷ []), length-map ds datumCell)
+
+pub queue-within : (x : EndState) → EndFits x → queueLength x ≤ queueDepth
+queue-within free-end f = omega arith
+queue-within (used m ds l) f = f .within .0
+
+-- ---- every cell fits
+
+item-fits : (x : Item) → ItemFits x → itemCell x < 256 ^ cellSize
+unfolding datumCell lastCell
+item-fits (datum (value v)) h = omega (arith, fits-ofZ {w = w32} {z = v} (record { sfits = h }) .fits)
+item-fits (datum (handle n)) h = omega arith
+item-fits (last (split-item p q)) h = omega (arith, h .0, h .1)
+item-fits (last close-item) h = omega arith
+item-fits (last (wait-item r)) h = omega arith
+
+queue-fits : (ds : List Datum) (l : Option Last) → ((i : ℕ) → DatumWithin (getD ds i (handle 0))) → LastFits l
+    → (i : ℕ) → getD (map datumCell ds ++ lastCells l) i 0 < 256 ^ cellSize
+unfolding lastCells
+queue-fits [] none w h i = omega arith
+queue-fits [] (some l) w h zero = item-fits (last l) h
+queue-fits [] (some l) w h (suc i) = omega arith
+queue-fits (d ∷ ds) l w h zero = item-fits (datum d) (w 0)
+queue-fits (d ∷ ds) l w h (suc i) = queue-fits ds l (λ j. w (suc j)) h i
+
+pub cells-fit : (x : EndState) → EndFits x → (i : ℕ) → getD (cellsOf x) i 0 < 256 ^ cellSize
+unfolding cellsOf queueCells
+cells-fit x f = pad-all (λ (n : ℕ). n < 256 ^ cellSize) queueDepth 0 (queueCells x) (omega arith) (fit x f)
+  where
+    fit : (x : EndState) → EndFits x → (i : ℕ) → getD (queueCells x) i 0 < 256 ^ cellSize
+    fit free-end f i = omega arith
+    fit (used m ds l) f i = queue-fits ds l (f .within .1) (f .last-fits) i
+
+-- ---- the head
+
+pub head-cell : (x : EndState) → EndFits x → cellItem (getD (cellsOf x) 0 0) ≡ headOf x
+unfolding cellsOf queueCells lastCells pad
+head-cell free-end f = cell-none
+head-cell (used m [] none) f = cell-none
+head-cell (used m [] (some l)) f = cell-item (last l) (f .last-fits)
+head-cell (used m (d ∷ ds) l) f = cell-item (datum d) (f .within .1 0)
+
+-- ---- the last item
+
+datum-kind : (ds : List Datum) (i : ℕ) → getD (map datumCell ds) i 0 % 256 < 3
+unfolding datumCell
+datum-kind [] i = omega arith
+datum-kind (value v ∷ ds) zero = omega arith
+datum-kind (handle n ∷ ds) zero = omega arith
+datum-kind (d ∷ ds) (suc i) = datum-kind ds i
+
+last-kind : (l : Last) → 3 ≤ lastCell l % 256
+unfolding lastCell
+last-kind (split-item p q) = let n : ℕ = p + 256 * q in omega arith
+last-kind close-item = omega arith
+last-kind (wait-item r) = omega arith
+
+pub last-cell : (x : EndState) → EndFits x → 0 < queueLength x → leb 3 (getD (cellsOf x) (queueLength x - 1) 0 % 256) ≡ isGiven (lastOf x)
+unfolding cellsOf queueCells lastCells
+last-cell free-end f h = absurd (omega arith)
+last-cell (used m ds none) f h =
+    let i : ℕ = length ds - 1 in
+    let inside : i < queueDepth = omega (arith, f .within .0) in
+    rw (getD-pad queueDepth 0 (map datumCell ds ++ []) i inside, append-nil (map datumCell ds)) (lt-leb 3 (getD (map datumCell ds) i 0 % 256) (datum-kind ds i))
+last-cell (used m ds (some l)) f h =
+    let cells : List ℕ = map datumCell ds ++ lastCell l ∷ [] in
+    let i : suc (length ds) - 1 ≡ length ds = omega arith in
+    let inside : length ds < queueDepth = omega (arith, f .within .0) in
+    let here : getD cells (length ds) 0 ≡ lastCell l = getD-at (map datumCell ds) (lastCell l) [] 0 (length ds) (length-map ds datumCell) in
+    rw (i, getD-pad queueDepth 0 cells (length ds) inside, here) (le-leb 3 (lastCell l % 256) (last-kind l))
+
+-- an empty queue has none
+pub none-given : (x : EndState) → queueLength x ≡ 0 → isGiven (lastOf x) ≡ false
+none-given free-end h = refl
+none-given (used m ds none) h = refl
+none-given (used m ds (some l)) h = absurd (omega arith)

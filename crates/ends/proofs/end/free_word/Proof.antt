@@ -1,0 +1,15 @@
+-- `free_word` is the word that the bytes show. Assumes nothing.
+use mathlib.Core.Path.{_∙_}
+use borrow.Author.Needs.{needs}
+use Rattle.ends.proofs.Shown.{word-is}
+use Rattle.ends.proofs.end.free_word.Statement.{statement}
+use Rattle.ends.proofs.end.free_word.Tie as tie
+
+get-word-requires : tie.Need-get-word-requires
+get-word-requires c κs = search needs
+
+returns : tie.Need-returns
+returns c st z e = c .get-word .ensures ∙ word-is st z (c .before .before .args .m .now) e
+
+pub free-word-spec : {M : Type 1} → statement M
+free-word-spec = tie.close (tie.spec get-word-requires returns)

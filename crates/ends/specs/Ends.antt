@@ -1,0 +1,16 @@
+-- What the contracts on one end ask of it, and say of its queue. Assumes nothing.
+use mathlib.Core.Bool.{Bool, true, false}
+use mathlib.Core.Option.{Option, none, some}
+use Rattle.rules.specs.State.{EndState, Last, lastOf}
+use Rattle.rules.specs.Sound.{EndWithin}
+use Rattle.keeping.proofs.ViewLaws.{LastFits}
+
+-- an end within the limits, so that each item fits its cell
+pub record EndFits (x : EndState) : Type 0 where
+  pub within : EndWithin x
+  pub last-fits : LastFits (lastOf x)
+
+-- there is a last item
+abbrev pub isGiven : Option Last → Bool
+isGiven none = false
+isGiven (some l) = true

@@ -1,0 +1,4 @@
+pub mod Words
+pub mod Items
+pub mod Sections
+pub mod Ends

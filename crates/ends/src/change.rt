@@ -1,0 +1,90 @@
+// Changes of one end or of a pair: the memory afterwards is the layout of the state with just these ends put anew.
+ghost use mathlib.Core.Path.{_≡_};
+ghost use mathlib.Core.Logic.{_≢_};
+ghost use mathlib.Core.Bool.{false};
+ghost use mathlib.Core.Option.{none};
+ghost use mathlib.Core.List.{[]};
+ghost use Prim.Native.Nat.{_<_};
+ghost use lib.ListN.{length};
+ghost use Rattle.rules.specs.Limits.{endCount, queueDepth};
+ghost use Rattle.rules.specs.State.{State, free-end, fresh-end, endAt, setEnd, isFreeEnd, lastOf, dataOf, behindHead, withPartner};
+ghost use Rattle.rules.specs.RecordStep.{append, paired};
+ghost use Rattle.rules.specs.Layout.{stateSize, layout};
+ghost use Rattle.keeping.proofs.LayoutLaws.{Sized};
+ghost use Rattle.ends.specs.Items.{itemOf};
+ghost use Rattle.ends.specs.Sections.{countIn};
+ghost use Rattle.ends.specs.Ends.{EndFits};
+use super::end::free_word;
+use super::item::{cell_of, Item};
+use super::section::{get_cells, get_count, put_cell, put_cells, put_count, put_partner, put_word};
+use super::word::{freed, taken};
+use rules::End;
+
+// An item is appended to the queue of an end in use that has no last item and room.
+pub fn append(m: &mut [u8], end: End, item: Item)
+    requires { ⌜ (length (now m) ≡ stateSize) × (end .0 < endCount) × (countIn (now m) (end .0) < queueDepth) ⌝ }
+    ensures { λ _. ⌜ ((st : State) → Sized st → now (m .entry) ≡ layout st → isFreeEnd (endAt st (end .0)) ≡ false → lastOf (endAt st (end .0)) ≡ none
+        → now (m .exit) ≡ layout (append st (end .0) (itemOf item))) ⌝ }
+{
+    let count = get_count(m, end);
+    put_cell(m, end, count, cell_of(item));
+    put_count(m, end, count + 1);
+}
+
+// The head of an end's queue is removed; from an empty queue, nothing.
+pub fn take_head(m: &mut [u8], end: End)
+    requires { ⌜ (length (now m) ≡ stateSize) × (end .0 < endCount) ⌝ }
+    ensures { λ _. ⌜ ((st : State) → Sized st → now (m .entry) ≡ layout st → EndFits (endAt st (end .0))
+        → now (m .exit) ≡ layout (setEnd st (end .0) (behindHead (endAt st (end .0))))) ⌝ }
+{
+    let count = get_count(m, end);
+    if count == 0 {
+        return;
+    }
+    let c = get_cells(m, end);
+    put_cells(m, end, [c[1], c[2], c[3], c[4], c[5], c[6], c[7], 0]);
+    put_count(m, end, count - 1);
+}
+
+// A free end comes into use, with a partner and an empty queue.
+fn take(m: &mut [u8], end: End, partner: End)
+    requires { ⌜ (length (now m) ≡ stateSize) × (end .0 < endCount) ⌝ }
+    ensures { λ _. ⌜ ((st : State) → Sized st → now (m .entry) ≡ layout st → endAt st (end .0) ≡ free-end
+        → now (m .exit) ≡ layout (setEnd st (end .0) (fresh-end (partner .0)))) ⌝ }
+{
+    let word = taken(free_word(m), end);
+    put_word(m, word);
+    put_partner(m, end, partner.0);
+}
+
+// Two free ends become a pair.
+pub fn pair(m: &mut [u8], p: End, q: End)
+    requires { ⌜ (length (now m) ≡ stateSize) × (p .0 < endCount) × (q .0 < endCount) ⌝ }
+    ensures { λ _. ⌜ ((st : State) → Sized st → now (m .entry) ≡ layout st → endAt st (p .0) ≡ free-end → endAt st (q .0) ≡ free-end → p .0 ≢ q .0
+        → now (m .exit) ≡ layout (paired st (p .0) (q .0))) ⌝ }
+{
+    take(m, p, q);
+    take(m, q, p);
+}
+
+// An end whose queue holds no value and no handle becomes free.
+pub fn free(m: &mut [u8], end: End)
+    requires { ⌜ (length (now m) ≡ stateSize) × (end .0 < endCount) ⌝ }
+    ensures { λ _. ⌜ ((st : State) → Sized st → now (m .entry) ≡ layout st → dataOf (endAt st (end .0)) ≡ []
+        → now (m .exit) ≡ layout (setEnd st (end .0) free-end)) ⌝ }
+{
+    let word = freed(free_word(m), end);
+    put_word(m, word);
+    put_partner(m, end, 0);
+    put_count(m, end, 0);
+    put_cell(m, end, 0, 0);
+}
+
+// An end in use gets another partner; its queue stays.
+pub fn set_partner(m: &mut [u8], end: End, partner: End)
+    requires { ⌜ (length (now m) ≡ stateSize) × (end .0 < endCount) ⌝ }
+    ensures { λ _. ⌜ ((st : State) → Sized st → now (m .entry) ≡ layout st → isFreeEnd (endAt st (end .0)) ≡ false
+        → now (m .exit) ≡ layout (setEnd st (end .0) (withPartner (partner .0) (endAt st (end .0))))) ⌝ }
+{
+    put_partner(m, end, partner.0);
+}
