@@ -1,0 +1,4 @@
+pub mod Bytes
+pub mod Zeros
+pub mod Records
+pub mod Queues

@@ -1,0 +1,1 @@
+// S1 of document 01 on bytes.
