@@ -33,12 +33,9 @@ number-fits (suc k) m at b = omega (arith, b at, number-fits k m (at + 1) b, pow
 pub length-part : (at n : ℕ) (m : List ℕ) → at + n ≤ length m → length (take n (drop at m)) ≡ n
 length-part at n m h = length-take-le n (drop at m) (rw (length-drop at m) (omega arith))
 
--- two equal lists, cut at the same place
-pub same-parts : {A : Type 0} (a b a′ b′ : List A) → length a ≡ length a′ → a ++ b ≡ a′ ++ b′ → (a ≡ a′) × (b ≡ b′)
-same-parts a b a′ b′ l e = (
-  sym (take-at a b (length a) refl) ∙ ap (take (length a)) e ∙ take-at a′ b′ (length a) (sym l),
-  sym (drop-at a b (length a) refl) ∙ ap (drop (length a)) e ∙ drop-at a′ b′ (length a) (sym l),
-)
+-- what is the memory from a place on, cut into a part and the rest
+pub cut-off : (at n : ℕ) (a b m : List ℕ) → length a ≡ n → a ++ b ≡ drop at m → (a ≡ take n (drop at m)) × (b ≡ drop (at + n) m)
+cut-off at n a b m l e = (sym (take-at a b n l) ∙ ap (take n) e, sym (drop-at a b n l) ∙ ap (drop n) e ∙ drop-drop n at m)
 
 -- a part and what stands behind it
 pub cut-at : (at n : ℕ) (m : List ℕ) → drop at m ≡ take n (drop at m) ++ drop (at + n) m

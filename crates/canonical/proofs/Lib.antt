@@ -1,4 +1,7 @@
+pub mod Tests
 pub mod Bytes
 pub mod Zeros
 pub mod Records
 pub mod Queues
+pub mod Shown
+pub mod Memory

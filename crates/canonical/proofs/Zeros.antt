@@ -61,6 +61,17 @@ module _ (n j : ℕ) (m : List ℕ) (fits : n + j ≤ length m) where
       sym (drop-at (take n m) (pad j 0 []) n long) ∙ ap (drop n) (e ∙ take-add n j m) ∙ drop-at (take n m) (take j (drop n m)) n long in
       subst (λ (r : List ℕ). zeros r ≡ true) behind (zeros-write j)
 
+-- the first k bytes padded are the first n exactly if those between are zero
+module _ (k j n : ℕ) (e : k + j ≡ n) (m : List ℕ) (fits : n ≤ length m) where
+  first-is : pad n 0 (take k m) ≡ take k m ++ pad j 0 []
+  first-is = subst (λ (i : ℕ). pad i 0 (take k m) ≡ take k m ++ pad j 0 []) e (pad-first k j 0 m (omega arith))
+
+  pub first-from : zeros (take j (drop k m)) ≡ true → pad n 0 (take k m) ≡ take n m
+  first-from h = first-is ∙ zeros-behind k j m (omega arith) h ∙ ap (λ (i : ℕ). take i m) e
+
+  pub first-to : pad n 0 (take k m) ≡ take n m → zeros (take j (drop k m)) ≡ true
+  first-to h = behind-zeros k j m (omega arith) (sym first-is ∙ h ∙ ap (λ (i : ℕ). take i m) (sym e))
+
 -- ---- cells: f writes one in w bytes, g reads one, z is written as zeros
 
 module _ {A : Type 0} (f : A → List ℕ) (w : ℕ) (z : A) (none : f z ≡ pad w 0 []) (g : List ℕ → A)
