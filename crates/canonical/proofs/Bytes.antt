@@ -11,6 +11,7 @@ use lib.Seq.{getD-take, getD-drop, length-take-le, take-at, drop-at, take-add, d
 use Rattle.rules.specs.Bytes.{numberAt, flat}
 use Rattle.words.specs.Parts.{Bytes}
 use Rattle.words.proofs.Pieces.{length-flat, cut-flat}
+use Rattle.canonical.specs.Canonical.{part}
 
 -- ---- bytes
 
@@ -32,6 +33,10 @@ number-fits (suc k) m at b = omega (arith, b at, number-fits k m (at + 1) b, pow
 -- a part has its length, where the list is long enough
 pub length-part : (at n : ℕ) (m : List ℕ) → at + n ≤ length m → length (take n (drop at m)) ≡ n
 length-part at n m h = length-take-le n (drop at m) (rw (length-drop at m) (omega arith))
+
+-- the part that a slice of the code is
+pub part-is : (at n : ℕ) (m : List ℕ) → part at (at + n) m ≡ take n (drop at m)
+part-is at n m = let e : at + n - at ≡ n = omega arith in ap (λ (k : ℕ). take k (drop at m)) e
 
 -- what is the memory from a place on, cut into a part and the rest
 pub cut-off : (at n : ℕ) (a b m : List ℕ) → length a ≡ n → a ++ b ≡ drop at m → (a ≡ take n (drop at m)) × (b ≡ drop (at + n) m)

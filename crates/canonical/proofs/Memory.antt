@@ -25,9 +25,9 @@ use Rattle.keeping.proofs.LayoutLaws.{length-record, length-queue}
 use Rattle.canonical.specs.Canonical.{part, zeros, codeLength, canonicalCode, canonicalRecord, canonicalEnd, recordPart, freeIn, queuePart, recordTest, endTest, canonicalBytes}
 use Rattle.canonical.proofs.Tests.{every-below}
 use Rattle.canonical.proofs.Bytes.{bytes-take, bytes-drop, number-fits, length-part, cut-off, cut-at, flat-from, flat-at, map-from, map-at}
-use Rattle.canonical.proofs.Zeros.{first-from, first-to}
-use Rattle.canonical.proofs.Records.{RecordSame, record-from, record-to}
-use Rattle.canonical.proofs.Queues.{EndSame, end-from, end-to}
+use Rattle.canonical.proofs.Padding.{first-from, first-to}
+use Rattle.canonical.proofs.RecordBytes.{RecordSame, record-from, record-to}
+use Rattle.canonical.proofs.EndBytes.{EndSame, end-from, end-to}
 use Rattle.canonical.proofs.Shown.{records-shown, ends-shown, word-is, record-shown, end-shown}
 
 -- ---- sections

@@ -10,8 +10,8 @@ use native.Mathlib.Decide.{ℕ-discrete}
 use native.Mathlib.Omega.{arith}
 use lib.ListN.{length, getD, take}
 use Rattle.rules.specs.EndStep.{onlyIf}
-use Rattle.rules.specs.SoundTest.{all, every}
-use Rattle.rules.proofs.TestLaws.{both, left-of, right-of, true-is-not-false, every-at}
+use Rattle.rules.specs.SoundTest.{all, every, allTrue}
+use Rattle.rules.proofs.TestLaws.{AllTrue, both, left-of, right-of, true-is-not-false, every-at}
 
 -- two tests of which each passes if the other does are the same
 pub same-test : (a b : Bool) → (a ≡ true → b ≡ true) → (b ≡ true → a ≡ true) → a ≡ b
@@ -23,6 +23,24 @@ same-test false false f g = refl
 pub fails : (b : Bool) → (b ≡ true → ⊥) → b ≡ false
 fails true f = absurd (f refl)
 fails false f = refl
+
+-- ---- a list of tests
+
+-- one that fails decides
+pub false-at : (bs : List Bool) (i : ℕ) → getD bs i true ≡ false → allTrue bs ≡ false
+unfolding allTrue
+false-at [] i h = h
+false-at (b ∷ bs) zero h = rw h
+false-at (b ∷ bs) (suc i) h =
+    let rest = false-at bs i h in
+    fails (onlyIf b (allTrue bs)) (λ t. true-is-not-false (right-of b (allTrue bs) t) rest)
+
+-- where all others pass, the last decides
+pub last-decides : (bs : List Bool) (b : Bool) → AllTrue bs → allTrue (bs ++ b ∷ []) ≡ b
+unfolding allTrue
+last-decides [] true h = refl
+last-decides [] false h = refl
+last-decides (c ∷ bs) b h = rw (h .0) (last-decides bs b (h .1))
 
 -- ---- over the numbers below n
 
@@ -40,6 +58,9 @@ module _ (test : ℕ → Bool) where
   pub every-more : (i : ℕ) → every test i ≡ true → test i ≡ true → every test (i + 1) ≡ true
   unfolding every
   every-more i h t = rw (add-one i) (both t h)
+
+  pub reached : (n : ℕ) {i : ℕ} → i ≤ n → n ≤ i → every test i ≡ true → true ≡ every test n
+  reached n {i} l k h = let e : i ≡ n = omega arith in sym h ∙ ap (every test) e
 
   pub every-fails : (n k : ℕ) → k < n → test k ≡ false → every test n ≡ false
   every-fails n k l f = fails (every test n) (λ h. true-is-not-false (every-at test n h k l) f)
@@ -68,3 +89,15 @@ module _ {A : Type 0} (test : A → Bool) where
       go (x ∷ l) zero h = ends-true (test x)
       go (x ∷ l) (suc i) h =
           ap (onlyIf (test x)) (go l i (le-of-suc-le-suc h)) ∙ join (test x) (all test (take i l)) (test (getD l i d))
+
+  pub all-more-true : (l : List A) (i : ℕ) (d : A) → i < length l → all test (take i l) ≡ true → test (getD l i d) ≡ true
+      → all test (take (i + 1) l) ≡ true
+  all-more-true l i d h t u = all-more l i d h ∙ both t u
+
+  pub all-fails : (l : List A) (i : ℕ) (d : A) → i < length l → test (getD l i d) ≡ false → all test l ≡ false
+  unfolding all
+  all-fails [] i d h f = absurd (omega arith)
+  all-fails (x ∷ l) zero d h f = rw f
+  all-fails (x ∷ l) (suc i) d h f =
+      let rest = all-fails l i d (le-of-suc-le-suc h) f in
+      fails (onlyIf (test x) (all test l)) (λ t. true-is-not-false (right-of (test x) (all test l) t) rest)

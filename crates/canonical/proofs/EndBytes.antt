@@ -27,7 +27,7 @@ use Rattle.words.proofs.Numbers.{length-bytes, bytes-number, number-bytes}
 use Rattle.words.proofs.Pads.{length-pad, pad-same, pad-all, take-pad}
 use Rattle.words.proofs.Pieces.{pieces-flat, length-pieces}
 use Rattle.canonical.specs.Canonical.{part, zeros, either, cellsIn, datumFits, lastFits, isDatum, isLast, canonicalCells, canonicalQueue, canonicalEnd}
-use Rattle.canonical.proofs.Zeros.{zeros-read, zeros-write, flat-none, cells-from, cells-to}
+use Rattle.canonical.proofs.Padding.{zeros-read, zeros-write, flat-none, cells-from, cells-to}
 
 -- ---- the cells in use
 
@@ -261,7 +261,7 @@ zero-cell : bytesOf cellSize 0 ≡ pad cellSize 0 []
 unfolding pad
 zero-cell = refl
 
-length-cells : (bytes : List ℕ) → length (cellsIn bytes) ≡ queueDepth
+pub length-cells : (bytes : List ℕ) → length (cellsIn bytes) ≡ queueDepth
 unfolding cellsIn
 length-cells bytes = length-map (pieces queueDepth cellSize bytes) numberIn ∙ length-pieces queueDepth cellSize bytes
 

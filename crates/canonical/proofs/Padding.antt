@@ -9,13 +9,16 @@ use native.Mathlib.Omega.{arith}
 use lib.ListN.{length, getD, take, drop, length-drop}
 use lib.Seq.{length-take-le, take-add, drop-at}
 use lib.Dec.{eqb}
-use borrow.Author.Tests.{eqb-true}
+use lib.Bits.{bitOr, or-add-and, and-le-l, and-le-r}
+use borrow.Author.Tests.{eqb-true, eq-eqb}
 use Rattle.rules.specs.Bytes.{flat, pad, pieces}
+use Rattle.rules.specs.EndStep.{onlyIf}
 use Rattle.rules.specs.SoundTest.{all}
-use Rattle.rules.proofs.TestLaws.{left-of, right-of}
+use Rattle.rules.proofs.TestLaws.{both, left-of, right-of}
 use Rattle.words.specs.Parts.{Bytes}
 use Rattle.words.proofs.Pieces.{flat-append}
 use Rattle.canonical.specs.Canonical.{isZero, zeros}
+use Rattle.canonical.proofs.Tests.{same-test, all-more}
 use Rattle.canonical.proofs.Bytes.{bytes-take, bytes-drop, length-part}
 
 -- ---- zeros
@@ -32,6 +35,35 @@ pub zeros-write : (n : ℕ) → zeros (pad n 0 []) ≡ true
 unfolding zeros all pad
 zeros-write zero = refl
 zeros-write (suc n) = zeros-write n
+
+-- a loop that joins bytes by or: before it, and after a turn
+pub zeros-none : true ≡ zeros []
+unfolding zeros all
+zeros-none = refl
+
+or-zero : (a b : ℕ) → eqb (bitOr a b) 0 ≡ onlyIf (eqb a 0) (eqb b 0)
+or-zero a b = same-test (eqb (bitOr a b) 0) (onlyIf (eqb a 0) (eqb b 0)) forth back
+  where
+    forth : eqb (bitOr a b) 0 ≡ true → onlyIf (eqb a 0) (eqb b 0) ≡ true
+    forth h =
+        let none : bitOr a b ≡ 0 = eqb-true (bitOr a b) 0 h in
+        let sum = or-add-and a b in
+        let left = and-le-l a b in
+        let right = and-le-r a b in
+        both (eq-eqb a 0 (omega arith)) (eq-eqb b 0 (omega arith))
+
+    back : onlyIf (eqb a 0) (eqb b 0) ≡ true → eqb (bitOr a b) 0 ≡ true
+    back h =
+        let none : a ≡ 0 = eqb-true a 0 (left-of (eqb a 0) (eqb b 0) h) in
+        let none′ : b ≡ 0 = eqb-true b 0 (right-of (eqb a 0) (eqb b 0) h) in
+        let sum = or-add-and a b in
+        eq-eqb (bitOr a b) 0 (omega arith)
+
+pub zeros-more : (a : ℕ) (l : List ℕ) (i : ℕ) → i < length l → eqb a 0 ≡ zeros (take i l)
+    → eqb (bitOr a (getD l i 0)) 0 ≡ zeros (take (i + 1) l)
+unfolding zeros
+zeros-more a l i h e =
+    or-zero a (getD l i 0) ∙ ap (λ (t : Bool). onlyIf t (eqb (getD l i 0) 0)) e ∙ sym (all-more isZero l i 0 h)
 
 pad-pad : {A : Type 0} (n k : ℕ) (z : A) → pad n z [] ++ pad k z [] ≡ pad (n + k) z []
 unfolding pad

@@ -31,7 +31,7 @@ use Rattle.words.proofs.Pieces.{length-flat, length-pieces}
 use Rattle.keeping.proofs.LayoutLaws.{length-value}
 use Rattle.canonical.specs.Canonical.{part, zeros, either, slotsFrom, stackFrom, environmentFrom, slotFits, canonicalRegisters, canonicalRecord}
 use Rattle.canonical.proofs.Bytes.{bytes-take, bytes-drop, number-fits, length-part, cut-at}
-use Rattle.canonical.proofs.Zeros.{zeros-read, zeros-write, cells-from, cells-to}
+use Rattle.canonical.proofs.Padding.{zeros-read, zeros-write, cells-from, cells-to}
 
 -- ---- values
 
