@@ -1,0 +1,68 @@
+// A record's 141 bytes: status, place, two counts, slots, stack, environment.
+ghost use mathlib.Core.Path.{_≡_};
+ghost use lib.ListN.{length};
+ghost use Rattle.rules.specs.SoundTest.{all};
+ghost use Rattle.rules.specs.Layout.{recordSize};
+ghost use Rattle.canonical.specs.Canonical.{slotFits, canonicalRegisters, canonicalRecord};
+use crate::places::ENVIRONMENT_FROM;
+use crate::places::RECORD_SIZE;
+use crate::places::SLOTS_FROM;
+use crate::places::STACK_FROM;
+use crate::places::VALUE_SIZE;
+use crate::places::wide;
+use crate::zeros::all_zero;
+use rules::END_COUNT;
+use rules::ENVIRONMENT_DEPTH;
+use rules::STACK_DEPTH;
+
+// Each slot is empty or holds an end.
+fn slots_fit(slots: &[u8]) -> bool
+    ensures { λ r. ⌜ r ≡ all slotFits (now (slots .entry)) ⌝ }
+{
+    let mut c = 0;
+    while c < slots.len() {
+        if (END_COUNT as u8) < slots[c] {
+            return false;
+        }
+        c += 1;
+    }
+    true
+}
+
+// A record in use.
+fn registers_are_canonical(bytes: &[u8]) -> bool
+    requires { ⌜ length (now bytes) ≡ recordSize ⌝ }
+    ensures { λ r. ⌜ r ≡ canonicalRegisters (now (bytes .entry)) ⌝ }
+{
+    let stacked = wide(bytes[3]);
+    if STACK_DEPTH < stacked {
+        return false;
+    }
+    let bound = wide(bytes[4]);
+    if ENVIRONMENT_DEPTH < bound {
+        return false;
+    }
+    if !slots_fit(&bytes[SLOTS_FROM..STACK_FROM]) {
+        return false;
+    }
+    let behind_stack = STACK_FROM + VALUE_SIZE * stacked;
+    if !all_zero(&bytes[behind_stack..ENVIRONMENT_FROM]) {
+        return false;
+    }
+    let behind_environment = ENVIRONMENT_FROM + VALUE_SIZE * bound;
+    all_zero(&bytes[behind_environment..RECORD_SIZE])
+}
+
+pub fn record_is_canonical(bytes: &[u8]) -> bool
+    requires { ⌜ length (now bytes) ≡ recordSize ⌝ }
+    ensures { λ r. ⌜ r ≡ canonicalRecord (now (bytes .entry)) ⌝ }
+{
+    let status = bytes[0];
+    if status == 0 {
+        return all_zero(bytes);
+    }
+    if 2 < status {
+        return false;
+    }
+    registers_are_canonical(bytes)
+}
