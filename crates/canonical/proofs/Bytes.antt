@@ -1,16 +1,16 @@
 -- Laws of lists of bytes and of parts of lists, which hold for any memory: a part of bytes is bytes, a number in bytes fits its width, two
 -- equal lists cut at the same place are equal in both parts, and a list of pieces joined is another list exactly if each piece is its part.
 -- Assumes nothing.
-use mathlib.Core.Path.{_≡_, refl, sym, ap, _∙_, subst}
+use mathlib.Core.Path.{_≡_, sym, ap, _∙_}
 use mathlib.Core.List.{List, [], _∷_, _++_, map}
 use Prim.Native.Nat.{ℕ, zero, suc, _+_, _-_, _*_, _^_, _≤_, _<_}
-use native.Mathlib.Nat.{pow-succ', mul-zero, mul-suc, add-zero, le-of-suc-le-suc, suc-inj}
+use native.Mathlib.Nat.{pow-succ', mul-zero, mul-suc}
 use native.Mathlib.Omega.{arith}
-use lib.ListN.{length, getD, take, drop, length-drop, length-append, length-map, take-append-drop, List·getD-map}
+use lib.ListN.{length, getD, take, drop, length-drop, length-map, take-append-drop, List·getD-map}
 use lib.Seq.{getD-take, getD-drop, length-take-le, take-at, drop-at, take-add, drop-drop, ext-getD}
 use Rattle.rules.specs.Bytes.{numberAt, flat}
 use Rattle.words.specs.Parts.{Bytes}
-use Rattle.words.proofs.Pieces.{length-flat, cut-flat}
+use Rattle.words.proofs.Pieces.{cut-flat}
 use Rattle.canonical.specs.Canonical.{part}
 
 -- ---- bytes

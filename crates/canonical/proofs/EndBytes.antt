@@ -9,7 +9,7 @@ use Prim.Native.Nat.{ℕ, zero, suc, _+_, _-_, _*_, _/_, _%_, _^_, _≤_, _<_}
 use native.Mathlib.Omega.{arith}
 use lib.ListN.{length, getD, take, drop, length-append, length-map}
 use lib.Seq.{length-take-le, take-all}
-use lib.Dec.{eqb, leb, ltb}
+use lib.Dec.{eqb, ltb}
 use lib.Signed.{mag}
 use mir.Syntax.{w32}
 use mir.Val.{toZ, ofZ, Fits, SFits}
@@ -19,7 +19,7 @@ use Rattle.rules.specs.Limits.{endCount, queueDepth, recordCount, handleCount, 
 use Rattle.rules.specs.Bytes.{bytesOf, numberAt, flat, pad, pieces}
 use Rattle.rules.specs.State.{Datum, value, handle, Last, split-item, close-item, wait-item, EndState, free-end, used, queueLength}
 use Rattle.rules.specs.EndStep.{onlyIf}
-use Rattle.rules.specs.SoundTest.{all, allTrue, datumWithin, lastWithin, endWithin}
+use Rattle.rules.specs.SoundTest.{all, datumWithin, lastWithin, endWithin}
 use Rattle.rules.specs.Layout.{cellSize, queueSize, partnerByte, datumCell, lastCell, lastCells, queueCells, queueBytes, Queue, queue, inFront, cellKind, viewCell, viewCells, viewQueue, viewEnd}
 use Rattle.rules.proofs.TestLaws.{both, left-of, right-of, all-true-read, all-true-write, true-is-not-false}
 use Rattle.words.specs.Parts.{Bytes}

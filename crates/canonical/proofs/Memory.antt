@@ -2,31 +2,31 @@
 -- state that it shows and that state is within the limits (`canonical-from`, `canonical-to`). The idea: the layout is the memory exactly if
 -- each of its sections is that section of the memory, and a section of pieces exactly if each piece is. Assumes nothing.
 use mathlib.Core.Path.{_≡_, refl, sym, ap, _∙_, subst}
-use mathlib.Core.Bool.{Bool, true, false}
-use mathlib.Core.List.{List, [], _∷_, _++_, map, append-nil}
-use Prim.Native.Nat.{ℕ, zero, suc, _+_, _-_, _*_, _^_, _≤_, _<_}
+use mathlib.Core.Bool.{true}
+use mathlib.Core.List.{List, [], _++_, map}
+use Prim.Native.Nat.{ℕ, _+_, _-_, _*_, _≤_, _<_}
 use native.Mathlib.Decide.{decLt}
 use native.Mathlib.Omega.{arith}
-use lib.ListN.{length, getD, take, drop, length-drop, length-append, length-map, take-append-drop, List·getD-eq-default}
-use lib.Seq.{length-take-le, take-all, getD-drop, getD-take, drop-drop}
-use lib.Dec.{eqb, leb, ltb}
+use lib.ListN.{length, getD, take, drop, length-drop, length-map, List·getD-eq-default}
+use lib.Seq.{take-all, getD-drop, drop-drop}
+use lib.Dec.{leb}
 use borrow.Author.Tests.{lt-ltb, le-leb, leb-true, eq-eqb}
 use Rattle.rules.specs.Limits.{recordCount, endCount, codeLimit}
 use Rattle.rules.specs.Bytes.{bytesOf, numberAt, flat, pad}
-use Rattle.rules.specs.State.{State, EndState, free-end, RecordState, free-record, recordAt, endAt, queueLength}
-use Rattle.rules.specs.SoundTest.{all, every, allTrue, recordWithin, endWithin, byteWithin, within}
-use Rattle.rules.specs.Layout.{recordSize, freeSize, queueSize, recordsAt, freeAt, partnersAt, countsAt, queuesAt, stateSize, recordBytes, freeWord, partnerByte, queueBytes, layout, viewRecord, viewEnd, view}
+use Rattle.rules.specs.State.{State, free-end, free-record, recordAt, endAt, queueLength}
+use Rattle.rules.specs.SoundTest.{recordWithin, endWithin, byteWithin, within}
+use Rattle.rules.specs.Layout.{recordSize, freeSize, queueSize, recordsAt, freeAt, partnersAt, countsAt, queuesAt, stateSize, recordBytes, freeWord, partnerByte, queueBytes, layout, view}
 use Rattle.rules.proofs.TestLaws.{left-of, right-of, both, all-at, all-from, every-at, all-true-read, all-true-write}
 use Rattle.words.specs.Parts.{Bytes}
 use Rattle.words.proofs.Numbers.{length-bytes, bytes-number, number-bytes, number-in}
 use Rattle.words.proofs.Pads.{length-pad}
 use Rattle.words.proofs.Pieces.{length-flat}
 use Rattle.keeping.proofs.LayoutLaws.{length-record, length-queue}
-use Rattle.canonical.specs.Canonical.{part, zeros, codeLength, canonicalCode, canonicalRecord, canonicalEnd, recordPart, freeIn, queuePart, recordTest, endTest, canonicalBytes}
+use Rattle.canonical.specs.Canonical.{part, zeros, codeLength, canonicalCode, recordPart, freeIn, queuePart, recordTest, endTest, canonicalBytes}
 use Rattle.canonical.proofs.Tests.{every-below}
-use Rattle.canonical.proofs.Bytes.{bytes-take, bytes-drop, number-fits, length-part, cut-off, cut-at, flat-from, flat-at, map-from, map-at}
+use Rattle.canonical.proofs.Bytes.{bytes-take, bytes-drop, length-part, cut-off, cut-at, flat-from, flat-at, map-from, map-at}
 use Rattle.canonical.proofs.Padding.{first-from, first-to}
-use Rattle.canonical.proofs.RecordBytes.{RecordSame, record-from, record-to}
+use Rattle.canonical.proofs.RecordBytes.{record-from, record-to}
 use Rattle.canonical.proofs.EndBytes.{EndSame, end-from, end-to}
 use Rattle.canonical.proofs.Shown.{records-shown, ends-shown, word-is, record-shown, end-shown}
 

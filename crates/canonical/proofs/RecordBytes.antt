@@ -1,29 +1,27 @@
 -- A record's bytes: they pass `canonicalRecord` exactly if they are what the record that they show is written to, and that record is within
 -- the limits (`record-from`, `record-to`). Assumes nothing.
 use mathlib.Core.Path.{_≡_, refl, sym, ap, _∙_, subst}
-use mathlib.Core.Bool.{Bool, true, false}
-use mathlib.Core.Option.{Option, none, some}
+use mathlib.Core.Bool.{true}
+use mathlib.Core.Option.{none}
 use mathlib.Core.List.{List, [], _∷_, _++_, map}
-use Prim.Native.Nat.{ℕ, zero, suc, _+_, _-_, _*_, _^_, _≤_, _<_}
-use native.Mathlib.Nat.{le-of-suc-le-suc}
+use Prim.Native.Nat.{ℕ, zero, suc, _+_, _-_, _*_, _≤_}
 use native.Mathlib.Omega.{arith}
 use lib.ListN.{length, getD, take, drop, length-drop, length-map}
 use lib.Seq.{length-take-le, take-all, take-at, drop-at, drop-cons, drop-drop}
-use lib.Dec.{eqb, leb, ltb}
+use lib.Dec.{eqb, leb}
 use lib.IntN.{pos}
 use lib.Signed.{mag}
 use mir.Syntax.{w32}
-use mir.Val.{toZ, ofZ, Fits, SFits}
+use mir.Val.{Fits}
 use mir.Facts.{ofZ-toZ, sfits-toZ}
-use borrow.Author.Tests.{lt-ltb, le-leb, lt-leb, leb-true, eq-eqb, ne-eqb, eqb-true}
+use borrow.Author.Tests.{lt-ltb, le-leb, lt-leb, leb-true, eq-eqb, ne-eqb}
 use Rattle.rules.specs.Limits.{endCount, slotCount, stackDepth, environmentDepth, placeCount, valueBound}
 use Rattle.rules.specs.Bytes.{bytesOf, numberAt, flat, pad, pieces}
-use Rattle.rules.specs.State.{Value, Registers, RecordState, free-record, running, waiting}
-use Rattle.rules.specs.Slots.{Slots}
+use Rattle.rules.specs.State.{Value, Registers, free-record}
 use Rattle.rules.specs.EndStep.{onlyIf}
-use Rattle.rules.specs.SoundTest.{all, allTrue, valueWithin, slotWithin, registersWithin, recordWithin}
+use Rattle.rules.specs.SoundTest.{all, valueWithin, slotWithin, registersWithin, recordWithin}
 use Rattle.rules.specs.Layout.{valueSize, recordSize, optional, valueBytes, registersBytes, noRegisters, recordBytes, viewOptional, viewValue, viewValues, viewRegisters, viewStatus, viewRecord}
-use Rattle.rules.proofs.TestLaws.{both, left-of, right-of, all-true-read, all-true-write, true-is-not-false}
+use Rattle.rules.proofs.TestLaws.{both, all-true-read, all-true-write, true-is-not-false}
 use Rattle.words.specs.Parts.{Bytes}
 use Rattle.words.proofs.Numbers.{bytes-number}
 use Rattle.words.proofs.Pads.{length-pad, pad-same}

@@ -1,20 +1,19 @@
 -- What a memory of the right length shows, record by record and end by end: record r is read from its 141 bytes, end e from its bit, its
 -- partner, its count and its 64 bytes. For any bytes, right or not. Assumes nothing.
-use mathlib.Core.Path.{_≡_, refl, sym, ap, _∙_, subst}
+use mathlib.Core.Path.{_≡_, refl, ap, _∙_}
 use mathlib.Core.Bool.{Bool, true, false}
-use mathlib.Core.List.{List, [], _∷_, map}
-use Prim.Native.Nat.{ℕ, zero, suc, _+_, _-_, _*_, _/_, _%_, _^_, _≤_, _<_}
-use native.Mathlib.Nat.{mul-zero, mul-suc, add-assoc, pow-succ', le-of-suc-le-suc}
+use mathlib.Core.List.{List, [], _∷_}
+use Prim.Native.Nat.{ℕ, zero, suc, _+_, _*_, _/_, _%_, _^_, _<_}
+use native.Mathlib.Nat.{add-assoc, pow-succ', le-of-suc-le-suc}
 use native.Mathlib.Omega.{arith}
 use lib.ListN.{length, getD, take, drop, length-map, List·getD-map}
 use lib.Seq.{getD-drop, drop-drop}
-use lib.Dec.{eqb}
 use borrow.Author.Tests.{eqb-true, eqb-false}
 use Rattle.rules.specs.Limits.{recordCount, endCount}
 use Rattle.rules.specs.Bytes.{numberAt, pieces}
-use Rattle.rules.specs.State.{State, EndState, free-end, RecordState, free-record, recordAt, endAt}
+use Rattle.rules.specs.State.{EndState, free-end, recordAt, endAt}
 use Rattle.rules.specs.Slots.{lowBit, inSet}
-use Rattle.rules.specs.Layout.{recordSize, freeSize, queueSize, recordsAt, freeAt, partnersAt, countsAt, queuesAt, stateSize, freeWord, viewStatus, viewRecord, viewEnd, viewEnds, view}
+use Rattle.rules.specs.Layout.{recordSize, freeSize, queueSize, recordsAt, freeAt, partnersAt, countsAt, queuesAt, freeWord, viewStatus, viewRecord, viewEnd, viewEnds, view}
 use Rattle.words.specs.Parts.{Bytes}
 use Rattle.words.proofs.Pieces.{length-pieces, getD-pieces}
 use Rattle.canonical.specs.Canonical.{recordPart, freeIn, queuePart}

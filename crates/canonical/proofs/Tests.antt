@@ -6,12 +6,11 @@ use mathlib.Core.List.{List, [], _∷_, _++_}
 use Prim.Native.Nat.{ℕ, zero, suc, _+_, _≤_, _<_}
 use native.Mathlib.Nat.{le-of-suc-le-suc}
 use native.Mathlib.Numerals.{add-one}
-use native.Mathlib.Decide.{ℕ-discrete}
 use native.Mathlib.Omega.{arith}
 use lib.ListN.{length, getD, take}
 use Rattle.rules.specs.EndStep.{onlyIf}
 use Rattle.rules.specs.SoundTest.{all, every, allTrue}
-use Rattle.rules.proofs.TestLaws.{AllTrue, both, left-of, right-of, true-is-not-false, every-at}
+use Rattle.rules.proofs.TestLaws.{AllTrue, both, right-of, true-is-not-false, every-at}
 
 -- two tests of which each passes if the other does are the same
 pub same-test : (a b : Bool) → (a ≡ true → b ≡ true) → (b ≡ true → a ≡ true) → a ≡ b

@@ -1,7 +1,7 @@
 -- What the changes of one end make of its cells, and of the memory: the layout of the state with that end anew. Assumes nothing.
-use mathlib.Core.Path.{_≡_, refl, sym, ap, _∙_, subst}
-use mathlib.Core.Bool.{true, false}
-use mathlib.Core.Option.{Option, none, some}
+use mathlib.Core.Path.{_≡_, refl, sym, ap, _∙_}
+use mathlib.Core.Bool.{false}
+use mathlib.Core.Option.{none, some}
 use mathlib.Core.List.{List, [], _∷_, _++_, map, append-nil, map-append}
 use Prim.Native.Nat.{ℕ, zero, suc, _+_, _-_, _*_, _≤_, _<_}
 use native.Mathlib.Nat.{le-of-suc-le-suc}
@@ -10,16 +10,16 @@ use lib.ListN.{length, getD, set, drop, length-set, length-append, length-drop, 
 use lib.Seq.{getD-drop, set-getD}
 use Rattle.rules.specs.Limits.{endCount, queueDepth}
 use Rattle.rules.specs.Bytes.{pad, table}
-use Rattle.rules.specs.State.{State, Datum, Last, Item, datum, last, EndState, free-end, used, fresh-end, endAt, setEnd, queueLength, isFreeEnd, lastOf, dataOf, appended, behindHead, withPartner}
+use Rattle.rules.specs.State.{State, Datum, Item, datum, last, EndState, free-end, used, fresh-end, endAt, setEnd, queueLength, isFreeEnd, lastOf, dataOf, appended, behindHead, withPartner}
 use Rattle.rules.specs.RecordStep.{append}
-use Rattle.rules.specs.Layout.{datumCell, lastCell, lastCells, queueCells, freeWord, partnerByte, layout}
+use Rattle.rules.specs.Layout.{datumCell, lastCells, queueCells, freeWord, partnerByte, layout}
 use Rattle.words.specs.Parts.{putAt}
 use Rattle.rules.proofs.TestLaws.{true-is-not-false}
 use Rattle.words.proofs.Pads.{length-pad}
 use Rattle.words.proofs.Tables.{table-is}
 use Rattle.keeping.proofs.LayoutLaws.{Sized}
 use Rattle.memory.specs.Sections.{cellsOf, partnersOf, countsOf, allCells}
-use Rattle.memory.proofs.States.{length-cells, partners-set, counts-set, cells-set}
+use Rattle.memory.proofs.States.{partners-set, counts-set, cells-set}
 use Rattle.ends.specs.Items.{itemCell}
 use Rattle.ends.specs.Sections.{withWord, withPartnerByte, withCount, withCell, withCells}
 use Rattle.ends.specs.Ends.{EndFits}

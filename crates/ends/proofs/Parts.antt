@@ -1,15 +1,15 @@
 -- A memory as the sections of the ends, changed one section after the other: what each write of `section` makes of it, and that the sections of a
 -- state with one end anew are that state's layout. A section that an end leaves as it was is the same list. Assumes nothing.
-use mathlib.Core.Path.{_≡_, refl, sym, ap, _∙_, subst}
-use mathlib.Core.List.{List, [], _∷_, _++_, map}
+use mathlib.Core.Path.{_≡_, sym, ap, _∙_}
+use mathlib.Core.List.{List, [], _∷_}
 use Prim.Native.Nat.{ℕ, zero, suc, _+_, _*_, _≤_, _<_}
-use native.Mathlib.Nat.{mul-zero, mul-suc, add-assoc, zero-add, le-of-suc-le-suc}
+use native.Mathlib.Nat.{mul-zero, mul-suc, zero-add, le-of-suc-le-suc}
 use native.Mathlib.Omega.{arith}
 use lib.ListN.{length, getD, set, length-set, length-map}
 use lib.Seq.{map-set-same, set-append-left}
 use Rattle.rules.specs.Limits.{endCount, queueDepth}
 use Rattle.rules.specs.Bytes.{bytesOf, flat}
-use Rattle.rules.specs.State.{State, EndState, free-end, endAt, setEnd, queueLength, isFreeEnd}
+use Rattle.rules.specs.State.{State, EndState, free-end, endAt, setEnd, queueLength}
 use Rattle.rules.specs.Layout.{freeSize, cellSize, freeAt, queuesAt, freeWord, partnerByte, layout}
 use Rattle.words.specs.Parts.{putAt}
 use Rattle.words.proofs.Parts.{put-skip, length-put}
@@ -17,7 +17,7 @@ use Rattle.words.proofs.Pieces.{flat-same}
 use Rattle.keeping.proofs.LayoutLaws.{Sized}
 use Rattle.memory.specs.Sections.{sectioned, cellsOf, partnersOf, countsOf, allCells}
 use Rattle.memory.proofs.Sections.{layout-is, put-word, put-partner, put-count, put-cell, put-cells}
-use Rattle.memory.proofs.States.{length-cells, length-all-cells, partners-set, counts-set, cells-set}
+use Rattle.memory.proofs.States.{length-cells, length-all-cells}
 use Rattle.ends.specs.Sections.{withWord, withPartnerByte, withCount, cellAt, withCell, withCells}
 
 -- m has the code and the records of a state, and these sections of ends

@@ -1,17 +1,16 @@
 -- The cells of one end's queue: as many as there are items, each fits, the first holds the head, and the last one's kind says whether it is a last
 -- item. Assumes nothing.
-use mathlib.Core.Path.{_≡_, refl, sym, ap, _∙_}
-use mathlib.Core.Bool.{true, false}
+use mathlib.Core.Path.{_≡_, refl}
+use mathlib.Core.Bool.{false}
 use mathlib.Core.Option.{Option, none, some}
 use mathlib.Core.List.{List, [], _∷_, _++_, map, append-nil}
 use Prim.Native.Nat.{ℕ, zero, suc, _+_, _-_, _*_, _%_, _^_, _≤_, _<_}
 use native.Mathlib.Omega.{arith}
 use lib.Dec.{leb}
-use lib.ListN.{length, getD, length-append, length-map, List·getD-append}
+use lib.ListN.{length, getD, length-append, length-map}
 use lib.Seq.{getD-at}
 use borrow.Author.Tests.{le-leb, lt-leb}
 use mir.Syntax.{w32}
-use mir.Val.{ofZ}
 use mir.Facts.{fits-ofZ}
 use Rattle.rules.specs.Limits.{queueDepth}
 use Rattle.rules.specs.Bytes.{pad}

@@ -1,12 +1,12 @@
 -- What the layout of a state shows of one end is that end of the state. Assumes nothing.
-use mathlib.Core.Path.{_≡_, refl, sym, ap, _∙_}
+use mathlib.Core.Path.{_≡_, refl, ap, _∙_}
 use mathlib.Core.List.{List}
 use Prim.Native.Nat.{ℕ, _<_}
-use lib.ListN.{length, getD}
+use lib.ListN.{getD}
 use Rattle.rules.specs.Limits.{endCount, queueDepth}
-use Rattle.rules.specs.Bytes.{numberAt, table}
+use Rattle.rules.specs.Bytes.{numberAt}
 use Rattle.rules.specs.State.{State, EndState, free-end, used, endAt, endOr, partnerOf, queueLength}
-use Rattle.rules.specs.Layout.{freeSize, cellSize, freeAt, partnersAt, countsAt, freeWord, partnerByte, layout}
+use Rattle.rules.specs.Layout.{freeSize, cellSize, freeAt, freeWord, partnerByte, layout}
 use Rattle.words.proofs.Tables.{table-is}
 use Rattle.keeping.proofs.LayoutLaws.{Sized}
 use Rattle.memory.specs.Sections.{cellsOf}

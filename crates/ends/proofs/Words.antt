@@ -1,9 +1,9 @@
 -- The word of free ends: its ones are the free ends of the list, lowest first (`free-ends`); a count of ones counts them, trailing zeros find the
 -- lowest, and one bit set or cleared is one end freed or taken. Each law goes by the lowest bit. Assumes nothing.
-use mathlib.Core.Path.{_≡_, refl, sym, ap, _∙_, subst}
+use mathlib.Core.Path.{_≡_, refl, ap, _∙_, subst}
 use mathlib.Core.Bool.{Bool, true, false}
 use mathlib.Core.List.{List, [], _∷_}
-use Prim.Native.Nat.{ℕ, zero, suc, _+_, _-_, _*_, _/_, _%_, _^_, _≤_, _<_, min, max}
+use Prim.Native.Nat.{ℕ, zero, suc, _+_, _-_, _*_, _/_, _%_, _^_, _<_, min, max}
 use native.Mathlib.Nat.{pow-succ', div-one, div-div-eq-div-mul, mod-eq-of-lt}
 use native.Mathlib.Decide.{ℕ-discrete}
 use native.Mathlib.Omega.{arith}
@@ -12,7 +12,7 @@ use lib.Seq.{getD-drop}
 use lib.Dec.{eqb}
 use lib.Bits.{bitAnd, bitOr, and-step, or-step, and-self, and-mask, or-zero-r}
 use lib.Pow.{pow-lt}
-use lib.Count.{ones, ones-step, trailingZeros, under}
+use lib.Count.{ones, ones-step, trailingZeros}
 use Rattle.rules.specs.Limits.{endCount}
 use Rattle.rules.specs.State.{State, EndState, free-end, used, isFreeEnd, placesFrom, freeEnds}
 use Rattle.rules.specs.Layout.{freeWord}

@@ -15,9 +15,17 @@ ghost use Rattle.ends.specs.Items.{itemOf};
 ghost use Rattle.ends.specs.Sections.{countIn};
 ghost use Rattle.ends.specs.Ends.{EndFits};
 use super::end::free_word;
-use super::item::{cell_of, Item};
-use super::section::{get_cells, get_count, put_cell, put_cells, put_count, put_partner, put_word};
-use super::word::{freed, taken};
+use super::item::Item;
+use super::item::cell_of;
+use super::section::get_cells;
+use super::section::get_count;
+use super::section::put_cell;
+use super::section::put_cells;
+use super::section::put_count;
+use super::section::put_partner;
+use super::section::put_word;
+use super::word::freed;
+use super::word::taken;
 use rules::End;
 
 // An item is appended to the queue of an end in use that has no last item and room.

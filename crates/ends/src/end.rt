@@ -10,8 +10,12 @@ ghost use Rattle.keeping.proofs.LayoutLaws.{Sized};
 ghost use Rattle.ends.specs.Items.{headIn};
 ghost use Rattle.ends.specs.Sections.{countIn};
 ghost use Rattle.ends.specs.Ends.{EndFits, isGiven};
-use super::item::{item_in, Head};
-use super::section::{get_cell, get_count, get_partner, get_word};
+use super::item::Head;
+use super::item::item_in;
+use super::section::get_cell;
+use super::section::get_count;
+use super::section::get_partner;
+use super::section::get_word;
 use super::word::names;
 use rules::End;
 

@@ -1,6 +1,6 @@
 // The ends of the state memory.
-pub mod word;
+pub mod change;
+pub mod end;
 pub mod item;
 mod section;
-pub mod end;
-pub mod change;
+pub mod word;

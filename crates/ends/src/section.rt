@@ -7,11 +7,17 @@ ghost use Rattle.rules.specs.Limits.{endCount, queueDepth};
 ghost use Rattle.rules.specs.Layout.{stateSize};
 ghost use Rattle.ends.specs.Sections.{wordIn, withWord, partnerByteIn, withPartnerByte, countIn, withCount, cellAt, cellIn, withCell, cellsIn, withCells};
 use rules::End;
-use words::{get64, get8, put64, put8};
+use words::get8;
+use words::get64;
+use words::put8;
+use words::put64;
 
 const FREE_AT: usize = 12670;
+
 const PARTNERS_AT: usize = 12678;
+
 const COUNTS_AT: usize = 12742;
+
 const QUEUES_AT: usize = 12806;
 
 // Where cell `index` of an end's queue stands.

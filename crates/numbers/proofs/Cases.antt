@@ -3,11 +3,12 @@ use mathlib.Core.Path.{_≡_}
 use mathlib.Core.Bool.{true, false}
 use mathlib.Core.List.{_∷_}
 use Prim.Native.Nat.{ℕ}
-use lib.ListN.{drop}
+use lib.ListN.{getD, drop}
+use lib.IntN.{pos}
 use Rattle.rules.specs.State.{State, Value, Registers, registers, running, setRecord}
 use Rattle.rules.specs.Refusal.{refused, done, unless}
-use Rattle.rules.specs.Instruction.{cst, store}
-use Rattle.rules.specs.Causes.{top, fewer, stackFull, environmentFull, ownCauses, sharedCauses}
+use Rattle.rules.specs.Instruction.{cst, access, store}
+use Rattle.rules.specs.Causes.{top, fewer, stackFull, environmentFull, noEnvironmentPlace, ownCauses, sharedCauses}
 use Rattle.rules.specs.RecordStep.{after}
 use Rattle.rules.specs.Ask.{answerTo}
 
@@ -20,6 +21,20 @@ module _ (st : State) (r next : ℕ) (g : Registers) where
       → answerTo st r next g (cst v) ≡ done (setRecord st r (running (registers next (v ∷ g .stack) (g .environment) (g .slots))))
   unfolding answerTo ownCauses sharedCauses unless after
   cst-done v f = rw f
+
+  pub access-full : (n : ℕ) → stackFull g ≡ true → answerTo st r next g (access n) ≡ refused 6
+  unfolding answerTo ownCauses sharedCauses unless
+  access-full n t = rw t
+
+  pub access-none : (n : ℕ) → stackFull g ≡ false → noEnvironmentPlace n g ≡ true → answerTo st r next g (access n) ≡ refused 7
+  unfolding answerTo ownCauses sharedCauses unless
+  access-none n f t = rw (f, t)
+
+  pub access-done : (n : ℕ) → stackFull g ≡ false → noEnvironmentPlace n g ≡ false
+      → answerTo st r next g (access n)
+      ≡ done (setRecord st r (running (registers next (getD (g .environment) n (pos 0) ∷ g .stack) (g .environment) (g .slots))))
+  unfolding answerTo ownCauses sharedCauses unless after
+  access-done n f f′ = rw (f, f′)
 
   pub store-few : fewer 1 g ≡ true → answerTo st r next g store ≡ refused 5
   unfolding answerTo ownCauses sharedCauses unless

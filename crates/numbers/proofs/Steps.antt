@@ -1,12 +1,14 @@
 -- What the instructions share: the registers that are loaded from a sound memory are those of the running record, a refusal leaves the memory
 -- as it was, and registers saved are the state after. Assumes nothing.
-use mathlib.Core.Path.{_≡_, refl, sym, ap, _∙_, subst}
+use mathlib.Core.Path.{_≡_, sym, ap, _∙_, subst}
 use mathlib.Core.List.{List}
-use Prim.Native.Nat.{ℕ}
+use Prim.Native.Nat.{ℕ, _≤_}
+use native.Mathlib.Omega.{arith}
 use lib.ListN.{length}
-use Rattle.rules.specs.State.{State, Registers as Process, RecordState, running, recordAt}
+use Rattle.rules.specs.State.{State, Registers as Process, RecordState, free-record, running, waiting, recordAt}
 use Rattle.rules.specs.Refusal.{Answer, refused, done}
-use Rattle.rules.specs.Layout.{layout, view}
+use Rattle.rules.specs.Limits.{environmentDepth}
+use Rattle.rules.specs.Layout.{noRegisters, layout, view}
 use Rattle.rules.specs.Sound.{RegistersWithin, RecordWithin}
 use Rattle.rules.specs.Calls.{layoutOr}
 use Rattle.rules.specs.Numbers.{replyTo}
@@ -38,6 +40,22 @@ module _ (m : List ℕ) (s : SoundMemory m) (r : ℕ) (g : Process) (is : record
   pub held-is : {x : Registers}
       → ((st : State) → Sized st → RecordWithin (recordAt st r) → m ≡ layout st → x ≡ registersOf (registersIn (recordAt st r))) → x ≡ registersOf g
   held-is f = f (view m) sized (s .state-sound .S1 .records-within r) (s .laid-out) ∙ ap (λ (y : RecordState). registersOf (registersIn y)) is
+
+-- the environment that is loaded is within the limits, whatever the record is
+pub held-small : (m : List ℕ) (s : SoundMemory m) (r : ℕ) {x : Registers}
+    → ((st : State) → Sized st → RecordWithin (recordAt st r) → m ≡ layout st → x ≡ registersOf (registersIn (recordAt st r)))
+    → x .«environment_count» ≤ environmentDepth
+unfolding registersOf noRegisters
+held-small m s r f =
+    let st = view m in
+    let ok = s .state-sound .S1 .records-within r in
+    let all : Sized st = record { records-sized = s .state-sound .S1 .record-count; ends-sized = s .state-sound .S1 .end-count } in
+    small (recordAt st r) ok (f st all ok (s .laid-out))
+  where
+    small : (y : RecordState) → RecordWithin y → {x : Registers} → x ≡ registersOf (registersIn y) → x .«environment_count» ≤ environmentDepth
+    small free-record w e = rw e (omega arith)
+    small (running g) w e = rw e (w .environment-within)
+    small (waiting g) w e = rw e (w .environment-within)
 
 -- ---- counts
 

@@ -1,4 +1,4 @@
-// The instructions on numbers: cst, access, store, add, mul, leq. Each tests its refusals in the order of document 01's numbers, then loads the
+// Instructions on numbers: cst, access, store. Each tests its refusals in the order of document 01's numbers, then loads the
 // registers, changes them by value and saves them. The memory is known to be sound.
 ghost use Prim.Native.Nat.{_<_};
 ghost use Rattle.rules.specs.Limits.{recordCount};
@@ -21,6 +21,24 @@ pub fn cst(m: &mut [u8], r: Record, v: i32, next: u16) -> Reply
     if 16 <= held.stack_count {
         return Reply::Refused(TOO_MANY_VALUES);
     }
+    let pushed = held.push(v);
+    registers::save_running(m, r, pushed.at(next));
+    Reply::Done
+}
+
+// Environment value n, counted from the newest, is pushed. It is read straight from the memory.
+pub fn access(m: &mut [u8], r: Record, n: u8, next: u16) -> Reply
+    requires { ⌜ SoundMemory (now m) × (recordNumber r < recordCount) ⌝ }
+    ensures { λ x. ⌜ Stepped (now (m .entry)) (recordNumber r) next (accessOf n) x (now (m .exit)) ⌝ }
+{
+    let held = registers::load(m, r);
+    if 16 <= held.stack_count {
+        return Reply::Refused(TOO_MANY_VALUES);
+    }
+    if held.environment_count <= n {
+        return Reply::Refused(NO_ENVIRONMENT_PLACE);
+    }
+    let v = registers::environment_value(m, r, n);
     let pushed = held.push(v);
     registers::save_running(m, r, pushed.at(next));
     Reply::Done

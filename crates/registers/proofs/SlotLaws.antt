@@ -1,10 +1,9 @@
 -- Slots in their bytes, 0 for an empty slot and an end's number and one for a held one. Assumes nothing.
 use mathlib.Core.Path.{_≡_, refl, sym, ap, _∙_}
-use mathlib.Core.Option.{Option, none, some}
+use mathlib.Core.Option.{Option, none}
 use mathlib.Core.List.{List, [], _∷_, map}
-use Prim.Native.Nat.{ℕ, zero, suc, _+_, _≤_, _<_}
-use native.Mathlib.Omega.{arith}
-use lib.ListN.{length, getD, set, length-set}
+use Prim.Native.Nat.{ℕ, zero, suc}
+use lib.ListN.{length, set, length-set}
 use Rattle.rules.specs.Limits.{slotCount}
 use Rattle.rules.specs.Bytes.{pad}
 use Rattle.rules.specs.Slots.{Slots}

@@ -1,6 +1,6 @@
 -- Arrays of values: what a shift by one makes of a padded list. A signed number that is moved is read back from its bits, so each law asks that
 -- the values fit. Assumes nothing.
-use mathlib.Core.Path.{_≡_, refl, sym, ap, _∙_, subst}
+use mathlib.Core.Path.{_≡_, refl, sym, ap, _∙_}
 use mathlib.Core.List.{List, [], _∷_, _++_}
 use Prim.Native.Nat.{ℕ, zero, suc, _+_, _-_, _≤_, _<_}
 use native.Mathlib.Nat.{le-of-suc-le-suc}
@@ -8,7 +8,7 @@ use native.Mathlib.Omega.{arith}
 use lib.ListN.{length, getD, drop, length-drop}
 use lib.Seq.{getD-drop}
 use lib.IntN.{ℤ, pos}
-use mir.Syntax.{Width, w32}
+use mir.Syntax.{w32}
 use mir.Val.{Val, toZ, ofZ, SFits}
 use mir.Facts.{toZ-ofZ}
 use denote.Signed.{SInt}

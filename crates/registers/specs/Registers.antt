@@ -1,14 +1,14 @@
 use Prim.Native.Nat.{ℕ, _+_, _*_}
 use mathlib.Core.Option.{none}
-use mathlib.Core.List.{List, _∷_, map, reverse}
-use lib.ListN.{length, take, drop}
+use mathlib.Core.List.{List, _∷_, map}
+use lib.ListN.{length, drop}
 use lib.IntN.{pos}
 use mir.Syntax.{w32}
 use mir.Val.{toZ}
 use Rattle.rules.specs.Limits.{slotCount, stackDepth, environmentDepth}
 use Rattle.rules.specs.Bytes.{pad, table, numberAt}
 use Rattle.rules.specs.State.{Value, Registers as Process, registers, RecordState, free-record, running, waiting}
-use Rattle.rules.specs.Slots.{Slots, calleeSlots}
+use Rattle.rules.specs.Slots.{Slots}
 use Rattle.rules.specs.Causes.{top}
 use Rattle.rules.specs.Layout.{valueSize, optional, noRegisters}
 use Rattle.registers.specs.declared.Registers.{Registers}

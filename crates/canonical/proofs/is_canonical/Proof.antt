@@ -1,6 +1,6 @@
 -- `is_canonical` tests in the order of the definition. Assumes nothing.
-use mathlib.Core.Path.{_≡_, sym, _∙_}
-use mathlib.Core.List.{List, [], _∷_}
+use mathlib.Core.Path.{sym, _∙_}
+use mathlib.Core.List.{[], _∷_}
 use borrow.Author.Tests.{not-true, not-false}
 use Rattle.rules.specs.Limits.{recordCount, endCount}
 use Rattle.rules.specs.SoundTest.{every}

@@ -1,17 +1,16 @@
 -- `records_are_canonical` looks at one record after the other. The invariant: the first i pass. Assumes nothing.
 use mathlib.Core.Path.{_≡_, sym, ap, _∙_}
-use mathlib.Core.Bool.{Bool, true, false}
+use mathlib.Core.Bool.{Bool, true}
 use mathlib.Core.List.{List}
-use Prim.Native.Nat.{ℕ, _+_, _-_, _*_, _≤_, _<_}
+use Prim.Native.Nat.{ℕ, _+_, _-_, _*_, _≤_}
 use native.Mathlib.Omega.{arith}
-use lib.ListN.{length, take, drop}
 use borrow.Author.Tests.{not-true, not-false}
 use Rattle.rules.specs.Limits.{recordCount}
 use Rattle.rules.specs.SoundTest.{every}
-use Rattle.rules.specs.Layout.{recordsAt, recordSize, stateSize}
+use Rattle.rules.specs.Layout.{recordsAt, recordSize}
 use Rattle.canonical.specs.Canonical.{part, canonicalRecord, recordTest}
 use Rattle.canonical.proofs.Tests.{every-none, every-more, every-fails, reached}
-use Rattle.canonical.proofs.Bytes.{part-is, length-part}
+use Rattle.canonical.proofs.Bytes.{part-is}
 use borrow.Author.Needs.{needs}
 use Rattle.canonical.proofs.records_are_canonical.Statement.{statement}
 use Rattle.canonical.proofs.records_are_canonical.Tie as tie

@@ -1,6 +1,5 @@
 -- `cells_are_canonical` goes on behind a datum, and ends at anything else. The invariant: the cells from i on decide. Assumes nothing.
 use mathlib.Core.Path.{_≡_, refl, sym, _∙_}
-use mathlib.Core.Bool.{true, false}
 use Prim.Native.Nat.{_-_, _≤_}
 use native.Mathlib.Omega.{arith}
 use lib.ListN.{take}

@@ -1,5 +1,3 @@
-use mathlib.Core.Path.{_≡_, sym}
-use lib.Dec.{ltb}
 use borrow.Author.Tests.{lt-ltb, le-ltb}
 use Rattle.canonical.proofs.queues.is_split.Statement.{statement}
 use Rattle.canonical.proofs.queues.is_split.Tie as tie

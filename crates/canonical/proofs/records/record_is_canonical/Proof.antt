@@ -1,11 +1,8 @@
 -- `record_is_canonical` goes by the status. Assumes nothing.
-use mathlib.Core.Path.{_≡_, sym, _∙_}
-use mathlib.Core.Bool.{Bool, true, false}
-use mathlib.Core.List.{List}
+use mathlib.Core.Path.{sym, _∙_}
 use lib.ListN.{getD}
-use lib.Dec.{eqb, leb}
 use borrow.Author.Tests.{eq-eqb, ne-eqb, lt-leb, le-leb}
-use Rattle.canonical.specs.Canonical.{zeros, canonicalRegisters, canonicalRecord}
+use Rattle.canonical.specs.Canonical.{canonicalRecord}
 use borrow.Author.Needs.{needs}
 use Rattle.canonical.proofs.records.record_is_canonical.Statement.{statement}
 use Rattle.canonical.proofs.records.record_is_canonical.Tie as tie

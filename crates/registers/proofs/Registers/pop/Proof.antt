@@ -1,7 +1,5 @@
-use mathlib.Core.Path.{ap, _∙_}
+use mathlib.Core.Path.{_∙_}
 use lib.ListN.{drop}
-use mir.Syntax.{w32}
-use mir.Val.{SFits}
 use mir.Facts.{toZ-ofZ}
 use Rattle.registers.proofs.Fields.{holds, held, with-stack}
 use Rattle.registers.proofs.ValueLaws.{first-is, one-less}

@@ -1,9 +1,6 @@
-use mathlib.Core.Path.{ap, _∙_}
+use mathlib.Core.Path.{_∙_}
 use mathlib.Core.List.{_∷_}
-use native.Mathlib.Omega.{arith}
-use lib.ListN.{drop, length-drop}
-use mir.Syntax.{w32}
-use mir.Val.{SFits}
+use lib.ListN.{drop}
 use mir.Facts.{toZ-ofZ}
 use Rattle.rules.specs.Causes.{top}
 use Rattle.registers.proofs.Fields.{holds, held, with-stack, with-environment}
