@@ -1,12 +1,11 @@
 -- The cells of one queue, read and written one after the other. Assumes nothing.
-use mathlib.Core.Path.{_≡_, refl, sym, ap, _∙_}
+use mathlib.Core.Path.{_≡_, refl, ap, _∙_}
 use mathlib.Core.List.{List}
-use Prim.Native.Nat.{ℕ, _+_, _*_, _≤_, _<_}
+use Prim.Native.Nat.{ℕ, _+_, _*_, _<_}
 use native.Mathlib.Omega.{arith}
 use lib.ListN.{length, getD, take}
-use Rattle.rules.specs.Limits.{queueDepth}
 use Rattle.rules.specs.Bytes.{bytesOf, flat}
-use Rattle.rules.specs.Layout.{cellSize, queuesAt}
+use Rattle.rules.specs.Layout.{cellSize}
 use Rattle.words.specs.Parts.{putAt}
 use Rattle.words.proofs.Numbers.{length-bytes}
 use Rattle.words.proofs.Pieces.{put-more}

@@ -1,11 +1,11 @@
 -- Items and cells: a cell is read by its kind, and the cell of an item within the limits holds that item. Assumes nothing.
-use mathlib.Core.Path.{_≡_, refl, sym, ap, _∙_}
-use mathlib.Core.Option.{Option, none, some}
+use mathlib.Core.Path.{_≡_, refl, _∙_}
+use mathlib.Core.Option.{none, some}
 use Prim.Native.Nat.{ℕ, zero, suc, _+_, _*_, _/_, _%_, _<_}
 use native.Mathlib.Nat.{mod-eq-of-lt}
 use native.Mathlib.Omega.{arith}
 use mir.Syntax.{w32}
-use mir.Val.{toZ, ofZ, SFits}
+use mir.Val.{ofZ, SFits}
 use mir.Facts.{toZ-ofZ, fits-ofZ}
 use Rattle.rules.specs.State.{Item, datum, last, value, handle, split-item, close-item, wait-item}
 use Rattle.rules.specs.Layout.{datumCell, lastCell, no-cell, cellKind}

@@ -1,9 +1,10 @@
 // An item of a queue, and the cell that it stands in: the kind in the low byte, above it the payload.
 ghost use mathlib.Core.Path.{_≡_};
-ghost use Prim.Native.Nat.{_+_, _*_, _<_};
 ghost use Rattle.ends.specs.Items.{itemOf, headIn, itemCell, cellItem};
-use rules::{End, Record};
-use words::{bits, signed};
+use rules::End;
+use rules::Record;
+use words::bits;
+use words::signed;
 
 // A value, a handle, a split with two ends, a close, or a wait naming a record.
 pub enum Item {
@@ -41,10 +42,7 @@ pub fn item_in(cell: u64) -> Head
     match cell % 256 {
         1 => Head::Item(Item::Value(signed((payload % 4294967296) as u32))),
         2 => Head::Item(Item::Handle((payload % 256) as u8)),
-        3 => Head::Item(Item::Split(
-            End((payload % 256) as u8),
-            End((payload / 256 % 256) as u8),
-        )),
+        3 => Head::Item(Item::Split(End((payload % 256) as u8), End((payload / 256 % 256) as u8))),
         4 => Head::Item(Item::Close),
         5 => Head::Item(Item::Wait(Record((payload % 256) as u8))),
         _ => Head::Empty,

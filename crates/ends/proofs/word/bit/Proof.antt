@@ -1,6 +1,6 @@
 -- `bit` is a power of two that a word holds. Assumes nothing.
 use mathlib.Core.Path.{ap, _∙_}
-use Prim.Native.Nat.{ℕ, _*_, _^_, _%_, _<_}
+use Prim.Native.Nat.{ℕ, _^_, _%_, _<_}
 use native.Mathlib.Nat.{one-mul, mod-eq-of-lt}
 use borrow.Author.Needs.{needs}
 use lib.Pow.{pow-lt}

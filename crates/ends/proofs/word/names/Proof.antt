@@ -1,6 +1,5 @@
 -- `names` looks at the bit of an end. Assumes nothing.
 use Prim.Native.Nat.{_<_}
-use native.Mathlib.Omega.{arith}
 use lib.ListN.{length}
 use borrow.Author.Needs.{needs}
 use Rattle.ends.proofs.Words.{word-holds}

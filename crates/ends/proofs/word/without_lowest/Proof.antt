@@ -1,5 +1,4 @@
 -- `without_lowest` clears the lowest one. Assumes nothing.
-use mathlib.Core.Path.{_≡_, refl, ap}
 use native.Mathlib.Omega.{arith}
 use borrow.Author.Needs.{needs}
 use Rattle.ends.specs.Words.{onesFrom, endsIn}
