@@ -3,5 +3,7 @@ pub mod Items
 pub mod Cells
 pub mod Queues
 pub mod Shown
+pub mod Fitting
+pub mod Anew
 pub mod Parts
 pub mod Changes

@@ -1,5 +1,5 @@
--- A memory as the sections of the ends, changed one section after the other: what each write of `section` makes of it, and that the sections of a
--- state with one end anew are that state's layout. A section that an end leaves as it was is the same list. Assumes nothing.
+-- A memory as the sections of the ends, changed one section after the other: what each write of `section` makes of it, and that the
+-- sections of a state with one end anew are that state's layout. A section that an end leaves as it was is the same list. Assumes nothing.
 use mathlib.Core.Path.{_≡_, sym, ap, _∙_}
 use mathlib.Core.List.{List, [], _∷_}
 use Prim.Native.Nat.{ℕ, zero, suc, _+_, _*_, _≤_, _<_}
@@ -44,7 +44,8 @@ module _ {A : Type 0} (f : A → List ℕ) (w : ℕ) (wide : (x : A) → length 
 module _ {st : State} (z : Sized st) where
   -- ---- the layout, and each write
 
-  pub parts : {m : List ℕ} → m ≡ layout st → Parts st m (freeWord (st .ends)) (partnersOf (st .ends)) (countsOf (st .ends)) (allCells (st .ends))
+  pub parts : {m : List ℕ} → m ≡ layout st
+      → Parts st m (freeWord (st .ends)) (partnersOf (st .ends)) (countsOf (st .ends)) (allCells (st .ends))
   unfolding partnersOf countsOf
   parts e = record {
     is = e ∙ layout-is st;
@@ -70,13 +71,15 @@ module _ {st : State} (z : Sized st) where
     partner-put e partner h q = record {
       is =
           q ∙ ap (λ (b : List ℕ). withPartnerByte b e partner) (p .is)
-          ∙ put-partner (st .code) (st .records) word partners counts cells (z .records-sized) (p .partners-long) (p .counts-long) e partner h;
+          ∙ put-partner (st .code) (st .records) word partners counts cells (z .records-sized) (p .partners-long) (p .counts-long)
+          e partner h;
       partners-long = length-set partners e partner ∙ p .partners-long;
       counts-long = p .counts-long;
       cells-long = p .cells-long;
     }
 
-    pub count-put : (e count : ℕ) {m′ : List ℕ} → e < endCount → m′ ≡ withCount m e count → Parts st m′ word partners (set counts e count) cells
+    pub count-put : (e count : ℕ) {m′ : List ℕ} → e < endCount → m′ ≡ withCount m e count
+        → Parts st m′ word partners (set counts e count) cells
     count-put e count h q = record {
       is =
           q ∙ ap (λ (b : List ℕ). withCount b e count) (p .is)
@@ -93,8 +96,8 @@ module _ {st : State} (z : Sized st) where
       is =
           let inside : queueDepth * e + i < length cells = rw (p .cells-long) (omega arith) in
           q ∙ ap (λ (b : List ℕ). putAt b (cellAt e i) (bytesOf cellSize cell)) (p .is)
-          ∙ put-cell (st .code) (st .records) word partners counts cells (z .records-sized) (p .partners-long) (p .counts-long) (queueDepth * e + i)
-          cell inside;
+          ∙ put-cell (st .code) (st .records) word partners counts cells (z .records-sized) (p .partners-long) (p .counts-long)
+          (queueDepth * e + i) cell inside;
       partners-long = p .partners-long;
       counts-long = p .counts-long;
       cells-long = length-set cells (queueDepth * e + i) cell ∙ p .cells-long;
@@ -109,8 +112,8 @@ module _ {st : State} (z : Sized st) where
           let at : cellAt e 0 ≡ queuesAt + cellSize * (queueDepth * e) = omega arith in
           q ∙ ap (λ (b : List ℕ). putAt b (cellAt e 0) (flat (bytesOf cellSize) new)) (p .is)
           ∙ ap (λ (i : ℕ). putAt (sectioned (st .code) (st .records) word partners counts cells) i (flat (bytesOf cellSize) new)) at
-          ∙ put-cells (st .code) (st .records) word partners counts (z .records-sized) (p .partners-long) (p .counts-long) cells (queueDepth * e) new
-          inside;
+          ∙ put-cells (st .code) (st .records) word partners counts (z .records-sized) (p .partners-long) (p .counts-long)
+          cells (queueDepth * e) new inside;
       partners-long = p .partners-long;
       counts-long = p .counts-long;
       cells-long = length-put cells (queueDepth * e) new ∙ p .cells-long;

@@ -1,5 +1,5 @@
--- The cells of one end's queue: as many as there are items, each fits, the first holds the head, and the last one's kind says whether it is a last
--- item. Assumes nothing.
+-- The cells of one end's queue: as many as there are items, each fits, the first holds the head, and the last one's kind says whether it is
+-- a last item. Assumes nothing.
 use mathlib.Core.Path.{_≡_, refl}
 use mathlib.Core.Bool.{false}
 use mathlib.Core.Option.{Option, none, some}
@@ -14,7 +14,8 @@ use mir.Syntax.{w32}
 use mir.Facts.{fits-ofZ}
 use Rattle.rules.specs.Limits.{queueDepth}
 use Rattle.rules.specs.Bytes.{pad}
-use Rattle.rules.specs.State.{Datum, value, handle, Last, split-item, close-item, wait-item, Item, datum, last, EndState, free-end, used, queueLength, headOf, lastOf}
+use Rattle.rules.specs.State.{Datum, value, handle, Last, split-item, close-item, wait-item, Item, datum, last}
+use Rattle.rules.specs.State.{EndState, free-end, used, queueLength, headOf, lastOf}
 use Rattle.rules.specs.Layout.{cellSize, datumCell, lastCell, lastCells, queueCells}
 use Rattle.rules.specs.Sound.{DatumWithin}
 use Rattle.words.proofs.Pads.{getD-pad, pad-all}
@@ -93,7 +94,8 @@ last-cell free-end f h = absurd (omega arith)
 last-cell (used m ds none) f h =
     let i : ℕ = length ds - 1 in
     let inside : i < queueDepth = omega (arith, f .within .0) in
-    rw (getD-pad queueDepth 0 (map datumCell ds ++ []) i inside, append-nil (map datumCell ds)) (lt-leb 3 (getD (map datumCell ds) i 0 % 256) (datum-kind ds i))
+    rw (getD-pad queueDepth 0 (map datumCell ds ++ []) i inside, append-nil (map datumCell ds))
+    (lt-leb 3 (getD (map datumCell ds) i 0 % 256) (datum-kind ds i))
 last-cell (used m ds (some l)) f h =
     let cells : List ℕ = map datumCell ds ++ lastCell l ∷ [] in
     let i : suc (length ds) - 1 ≡ length ds = omega arith in

@@ -1,5 +1,5 @@
--- The word of free ends: its ones are the free ends of the list, lowest first (`free-ends`); a count of ones counts them, trailing zeros find the
--- lowest, and one bit set or cleared is one end freed or taken. Each law goes by the lowest bit. Assumes nothing.
+-- The word of free ends: its ones are the free ends of the list, lowest first (`free-ends`, `agrees`); a count of ones counts them,
+-- trailing zeros find the lowest, and one bit set or cleared is one end freed or taken. Each law goes by the lowest bit. Assumes nothing.
 use mathlib.Core.Path.{_≡_, refl, ap, _∙_, subst}
 use mathlib.Core.Bool.{Bool, true, false}
 use mathlib.Core.List.{List, [], _∷_}
@@ -15,10 +15,11 @@ use lib.Pow.{pow-lt}
 use lib.Count.{ones, ones-step, trailingZeros}
 use Rattle.rules.specs.Limits.{endCount}
 use Rattle.rules.specs.State.{State, EndState, free-end, used, isFreeEnd, placesFrom, freeEnds}
+use Rattle.rules.specs.RecordStep.{lowestFree}
 use Rattle.rules.specs.Layout.{freeWord}
 use Rattle.keeping.proofs.LayoutLaws.{Sized}
 use Rattle.keeping.proofs.ViewLaws.{free-word-fits}
-use Rattle.ends.specs.Words.{onesFrom, endsIn}
+use Rattle.ends.specs.Words.{onesFrom, endsIn, Agrees}
 
 -- ---- a number by its lowest bit
 
@@ -35,7 +36,8 @@ even-half : (n : ℕ) → (2 * n) / 2 ≡ n
 even-half n = omega arith
 
 -- what holds of 0 in no bits, and with one bit more below, holds of every word in its bits
-module _ (P : ℕ → ℕ → Type 0) (none : P 0 0) (odd : (n w : ℕ) → P n w → P (suc n) (1 + 2 * w)) (even : (n w : ℕ) → P n w → P (suc n) (2 * w)) where
+module _ (P : ℕ → ℕ → Type 0) (none : P 0 0) (odd : (n w : ℕ) → P n w → P (suc n) (1 + 2 * w))
+    (even : (n w : ℕ) → P n w → P (suc n) (2 * w)) where
   pub by-bits : (n w : ℕ) → w < 2 ^ n → P n w
   by-bits zero w h = let e : 0 ≡ w = omega arith in subst (λ (v : ℕ). P 0 v) e none
   by-bits (suc n) w h = go (ℕ-discrete (w % 2) 1) (by-bits n (w / 2) (omega (arith, pow-succ' 2 n)))
@@ -65,6 +67,15 @@ pub free-ends : (st : State) → Sized st → endsIn (freeWord (st .ends)) ≡ f
 unfolding endsIn freeEnds
 free-ends st z =
     subst (λ (n : ℕ). onesFrom n 0 (freeWord (st .ends)) ≡ placesFrom 0 isFreeEnd (st .ends)) (z .ends-sized) (ones-of-list 0 (st .ends))
+
+-- so the word agrees with the definitions that count in the list
+pub agrees : (st : State) → Sized st → (word : ℕ) → word ≡ freeWord (st .ends) → Agrees st word
+unfolding lowestFree
+agrees st z word e =
+    let same : endsIn word ≡ freeEnds st = ap endsIn e ∙ free-ends st z in
+    let place : (i : ℕ) → getD (endsIn word) i endCount ≡ getD (freeEnds st) i endCount =
+    λ i. ap (λ (l : List ℕ). getD l i endCount) same in
+    record { count = ap length same; lowest = place 0; first = place 0; second = place 1; third = place 2; fourth = place 3 }
 
 -- ---- ones give the count
 
@@ -133,8 +144,8 @@ abbrev bitOf : Bool → ℕ
 bitOf true = 1
 bitOf false = 0
 
-bit-laws : (b : Bool) → (bitOf b < 2) × (max (bitOf b) 0 ≡ bitOf b) × (max (bitOf b) 1 ≡ 1) × (min (bitOf b) 0 ≡ 0) × (min (bitOf b) 1 ≡ bitOf b)
-    × (eqb (bitOf b) 1 ≡ b)
+bit-laws : (b : Bool) → (bitOf b < 2) × (max (bitOf b) 0 ≡ bitOf b) × (max (bitOf b) 1 ≡ 1) × (min (bitOf b) 0 ≡ 0)
+    × (min (bitOf b) 1 ≡ bitOf b) × (eqb (bitOf b) 1 ≡ b)
 bit-laws true = (omega arith, refl, refl, refl, refl, refl)
 bit-laws false = (omega arith, refl, refl, refl, refl, refl)
 

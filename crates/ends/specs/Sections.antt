@@ -1,5 +1,5 @@
--- What the bytes of a state memory show of the ends: the word of free ends, and the partner, the count and the cells of one end; and the bytes
--- with one of these anew, all others as they were. Assumes nothing.
+-- What the bytes of a state memory show of the ends: the word of free ends, and the partner, the count and the cells of one end; and the
+-- bytes with one of these anew, all others as they were. Assumes nothing.
 use Prim.Native.Nat.{ℕ, _+_, _*_}
 use mathlib.Core.List.{List, [], _∷_}
 use lib.ListN.{getD}

@@ -7,6 +7,7 @@ ghost use mathlib.Core.List.{[]};
 ghost use Prim.Native.Nat.{_<_};
 ghost use lib.ListN.{length};
 ghost use Rattle.rules.specs.Limits.{endCount, queueDepth};
+ghost use Rattle.rules.specs.Numbers.{endNumber};
 ghost use Rattle.rules.specs.State.{State, free-end, fresh-end, endAt, setEnd, isFreeEnd, lastOf, dataOf, behindHead, withPartner};
 ghost use Rattle.rules.specs.RecordStep.{append, paired};
 ghost use Rattle.rules.specs.Layout.{stateSize, layout};
@@ -14,25 +15,25 @@ ghost use Rattle.keeping.proofs.LayoutLaws.{Sized};
 ghost use Rattle.ends.specs.Items.{itemOf};
 ghost use Rattle.ends.specs.Sections.{countIn};
 ghost use Rattle.ends.specs.Ends.{EndFits};
-use super::end::free_word;
-use super::item::Item;
-use super::item::cell_of;
-use super::section::get_cells;
-use super::section::get_count;
-use super::section::put_cell;
-use super::section::put_cells;
-use super::section::put_count;
-use super::section::put_partner;
-use super::section::put_word;
-use super::word::freed;
-use super::word::taken;
+use crate::item::Item;
+use crate::item::cell_of;
+use crate::reading::free_word;
+use crate::section::get_cells;
+use crate::section::get_count;
+use crate::section::put_cell;
+use crate::section::put_cells;
+use crate::section::put_count;
+use crate::section::put_partner;
+use crate::section::put_word;
+use crate::word::freed;
+use crate::word::taken;
 use rules::End;
 
 // An item is appended to the queue of an end in use that has no last item and room.
 pub fn append(m: &mut [u8], end: End, item: Item)
-    requires { ⌜ (length (now m) ≡ stateSize) × (end .0 < endCount) × (countIn (now m) (end .0) < queueDepth) ⌝ }
-    ensures { λ _. ⌜ ((st : State) → Sized st → now (m .entry) ≡ layout st → isFreeEnd (endAt st (end .0)) ≡ false → lastOf (endAt st (end .0)) ≡ none
-        → now (m .exit) ≡ layout (append st (end .0) (itemOf item))) ⌝ }
+    requires { ⌜ (length (now m) ≡ stateSize) × (endNumber end < endCount) × (countIn (now m) (endNumber end) < queueDepth) ⌝ }
+    ensures { λ _. ⌜ ((st : State) → Sized st → now (m .entry) ≡ layout st → isFreeEnd (endAt st (endNumber end)) ≡ false
+        → lastOf (endAt st (endNumber end)) ≡ none → now (m .exit) ≡ layout (append st (endNumber end) (itemOf item))) ⌝ }
 {
     let count = get_count(m, end);
     put_cell(m, end, count, cell_of(item));
@@ -41,9 +42,9 @@ pub fn append(m: &mut [u8], end: End, item: Item)
 
 // The head of an end's queue is removed; from an empty queue, nothing.
 pub fn take_head(m: &mut [u8], end: End)
-    requires { ⌜ (length (now m) ≡ stateSize) × (end .0 < endCount) ⌝ }
-    ensures { λ _. ⌜ ((st : State) → Sized st → now (m .entry) ≡ layout st → EndFits (endAt st (end .0))
-        → now (m .exit) ≡ layout (setEnd st (end .0) (behindHead (endAt st (end .0))))) ⌝ }
+    requires { ⌜ (length (now m) ≡ stateSize) × (endNumber end < endCount) ⌝ }
+    ensures { λ _. ⌜ ((st : State) → Sized st → now (m .entry) ≡ layout st → EndFits (endAt st (endNumber end))
+        → now (m .exit) ≡ layout (setEnd st (endNumber end) (behindHead (endAt st (endNumber end))))) ⌝ }
 {
     let count = get_count(m, end);
     if count == 0 {
@@ -56,9 +57,9 @@ pub fn take_head(m: &mut [u8], end: End)
 
 // A free end comes into use, with a partner and an empty queue.
 fn take(m: &mut [u8], end: End, partner: End)
-    requires { ⌜ (length (now m) ≡ stateSize) × (end .0 < endCount) ⌝ }
-    ensures { λ _. ⌜ ((st : State) → Sized st → now (m .entry) ≡ layout st → endAt st (end .0) ≡ free-end
-        → now (m .exit) ≡ layout (setEnd st (end .0) (fresh-end (partner .0)))) ⌝ }
+    requires { ⌜ (length (now m) ≡ stateSize) × (endNumber end < endCount) ⌝ }
+    ensures { λ _. ⌜ ((st : State) → Sized st → now (m .entry) ≡ layout st → endAt st (endNumber end) ≡ free-end
+        → now (m .exit) ≡ layout (setEnd st (endNumber end) (fresh-end (endNumber partner)))) ⌝ }
 {
     let word = taken(free_word(m), end);
     put_word(m, word);
@@ -67,9 +68,10 @@ fn take(m: &mut [u8], end: End, partner: End)
 
 // Two free ends become a pair.
 pub fn pair(m: &mut [u8], p: End, q: End)
-    requires { ⌜ (length (now m) ≡ stateSize) × (p .0 < endCount) × (q .0 < endCount) ⌝ }
-    ensures { λ _. ⌜ ((st : State) → Sized st → now (m .entry) ≡ layout st → endAt st (p .0) ≡ free-end → endAt st (q .0) ≡ free-end → p .0 ≢ q .0
-        → now (m .exit) ≡ layout (paired st (p .0) (q .0))) ⌝ }
+    requires { ⌜ (length (now m) ≡ stateSize) × (endNumber p < endCount) × (endNumber q < endCount) ⌝ }
+    ensures { λ _. ⌜ ((st : State) → Sized st → now (m .entry) ≡ layout st → endAt st (endNumber p) ≡ free-end
+        → endAt st (endNumber q) ≡ free-end → endNumber p ≢ endNumber q
+        → now (m .exit) ≡ layout (paired st (endNumber p) (endNumber q))) ⌝ }
 {
     take(m, p, q);
     take(m, q, p);
@@ -77,9 +79,9 @@ pub fn pair(m: &mut [u8], p: End, q: End)
 
 // An end whose queue holds no value and no handle becomes free.
 pub fn free(m: &mut [u8], end: End)
-    requires { ⌜ (length (now m) ≡ stateSize) × (end .0 < endCount) ⌝ }
-    ensures { λ _. ⌜ ((st : State) → Sized st → now (m .entry) ≡ layout st → dataOf (endAt st (end .0)) ≡ []
-        → now (m .exit) ≡ layout (setEnd st (end .0) free-end)) ⌝ }
+    requires { ⌜ (length (now m) ≡ stateSize) × (endNumber end < endCount) ⌝ }
+    ensures { λ _. ⌜ ((st : State) → Sized st → now (m .entry) ≡ layout st → dataOf (endAt st (endNumber end)) ≡ []
+        → now (m .exit) ≡ layout (setEnd st (endNumber end) free-end)) ⌝ }
 {
     let word = freed(free_word(m), end);
     put_word(m, word);
@@ -90,9 +92,9 @@ pub fn free(m: &mut [u8], end: End)
 
 // An end in use gets another partner; its queue stays.
 pub fn set_partner(m: &mut [u8], end: End, partner: End)
-    requires { ⌜ (length (now m) ≡ stateSize) × (end .0 < endCount) ⌝ }
-    ensures { λ _. ⌜ ((st : State) → Sized st → now (m .entry) ≡ layout st → isFreeEnd (endAt st (end .0)) ≡ false
-        → now (m .exit) ≡ layout (setEnd st (end .0) (withPartner (partner .0) (endAt st (end .0))))) ⌝ }
+    requires { ⌜ (length (now m) ≡ stateSize) × (endNumber end < endCount) ⌝ }
+    ensures { λ _. ⌜ ((st : State) → Sized st → now (m .entry) ≡ layout st → isFreeEnd (endAt st (endNumber end)) ≡ false
+        → now (m .exit) ≡ layout (setEnd st (endNumber end) (withPartner (endNumber partner) (endAt st (endNumber end))))) ⌝ }
 {
     put_partner(m, end, partner.0);
 }

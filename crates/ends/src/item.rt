@@ -1,6 +1,5 @@
 // An item of a queue, and the cell that it stands in: the kind in the low byte, above it the payload.
 ghost use mathlib.Core.Path.{_≡_};
-ghost use Prim.Native.Nat.{_+_, _*_, _<_};
 ghost use Rattle.ends.specs.Items.{itemOf, headIn, itemCell, cellItem};
 use rules::End;
 use rules::Record;

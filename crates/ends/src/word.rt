@@ -4,6 +4,7 @@ ghost use mathlib.Core.Bool.{false};
 ghost use Prim.Native.Nat.{_^_, _<_};
 ghost use lib.ListN.{length, getD, drop};
 ghost use Rattle.rules.specs.Limits.{endCount};
+ghost use Rattle.rules.specs.Numbers.{endNumber};
 ghost use Rattle.rules.specs.State.{State, EndState, free-end, isFreeEnd, endAt, setEnd};
 ghost use Rattle.rules.specs.Layout.{freeWord};
 ghost use Rattle.keeping.proofs.LayoutLaws.{Sized};
@@ -19,7 +20,7 @@ pub fn count(word: u64) -> u8
 
 // The lowest free end; with none free, the number of ends.
 pub fn lowest(word: u64) -> End
-    ensures { λ r. ⌜ r .0 ≡ getD (endsIn word) 0 endCount ⌝ }
+    ensures { λ r. ⌜ endNumber r ≡ getD (endsIn word) 0 endCount ⌝ }
 {
     End(u64::trailing_zeros(word) as u8)
 }
@@ -36,33 +37,33 @@ pub fn without_lowest(word: u64) -> u64
 
 // The bit of an end.
 fn bit(end: End) -> u64
-    requires { ⌜ end .0 < endCount ⌝ }
-    ensures { λ r. ⌜ r ≡ 2 ^ (end .0) ⌝ }
+    requires { ⌜ endNumber end < endCount ⌝ }
+    ensures { λ r. ⌜ r ≡ 2 ^ (endNumber end) ⌝ }
 {
     1u64 << end.0
 }
 
 // Does the word name an end?
 pub fn names(word: u64, end: End) -> bool
-    requires { ⌜ end .0 < endCount ⌝ }
-    ensures { λ r. ⌜ ((st : State) → Sized st → word ≡ freeWord (st .ends) → r ≡ isFreeEnd (endAt st (end .0))) ⌝ }
+    requires { ⌜ endNumber end < endCount ⌝ }
+    ensures { λ r. ⌜ ((st : State) → Sized st → word ≡ freeWord (st .ends) → r ≡ isFreeEnd (endAt st (endNumber end))) ⌝ }
 {
     (word >> end.0) % 2 == 1
 }
 
 // The word with an end freed.
 pub fn freed(word: u64, end: End) -> u64
-    requires { ⌜ end .0 < endCount ⌝ }
-    ensures { λ r. ⌜ ((st : State) → Sized st → word ≡ freeWord (st .ends) → r ≡ freeWord (setEnd st (end .0) free-end .ends)) ⌝ }
+    requires { ⌜ endNumber end < endCount ⌝ }
+    ensures { λ r. ⌜ ((st : State) → Sized st → word ≡ freeWord (st .ends) → r ≡ freeWord (setEnd st (endNumber end) free-end .ends)) ⌝ }
 {
     word | bit(end)
 }
 
 // The word with an end taken, for whatever use x.
 pub fn taken(word: u64, end: End) -> u64
-    requires { ⌜ end .0 < endCount ⌝ }
+    requires { ⌜ endNumber end < endCount ⌝ }
     ensures { λ r. ⌜ ((st : State) (x : EndState) → Sized st → word ≡ freeWord (st .ends) → isFreeEnd x ≡ false
-        → r ≡ freeWord (setEnd st (end .0) x .ends)) ⌝ }
+        → r ≡ freeWord (setEnd st (endNumber end) x .ends)) ⌝ }
 {
     word & !bit(end)
 }

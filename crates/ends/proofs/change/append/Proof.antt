@@ -1,11 +1,10 @@
 -- `append` writes the item's cell behind those in use, and the count. Assumes nothing.
-use mathlib.Core.Path.{_≡_, ap, _∙_}
+use mathlib.Core.Path.{_≡_, _∙_}
 use Prim.Native.Nat.{_<_}
 use borrow.Author.Needs.{needs}
 use Rattle.rules.specs.Limits.{queueDepth}
 use Rattle.rules.specs.State.{endAt, queueLength}
 use Rattle.ends.specs.Items.{itemOf}
-use Rattle.ends.specs.Sections.{withCell}
 use Rattle.ends.proofs.Shown.{count-is}
 use Rattle.ends.proofs.Changes.{append-written}
 use Rattle.ends.proofs.change.append.Statement.{statement}
@@ -42,8 +41,8 @@ returns c st z laid used no-last =
     let inside = start .pre .1 in
     let count : k ≡ queueLength (endAt st e) = at-count .get-count .ensures ∙ count-is st z (a .m .now) laid e inside in
     let room : k < queueDepth = rw (at-count .get-count .ensures) (start .pre .2) in
-    let put = at-put-cell .put-cell .ensures ∙ ap (withCell (a .m .now) e k) (at-cell .cell-of .ensures) in
-    append-written st z e inside used no-last (itemOf (a .item)) k laid count room put (at-put-count .put-count .ensures)
+    append-written st z e inside laid used no-last (itemOf (a .item)) k (at-cell .cell-of .result) count room (at-cell .cell-of .ensures)
+    (at-put-cell .put-cell .ensures) (at-put-count .put-count .ensures)
 
 pub append-spec : {M : Type 1} → statement M
 append-spec =

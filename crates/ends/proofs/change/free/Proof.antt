@@ -36,8 +36,9 @@ returns c st z laid no-data =
     let start = at-word .before .before .before in
     let a = start .args in
     let word = at-freed .freed .ensures st z (at-word .free-word .ensures st z laid) in
-    free-written st z (a .end .0) (start .pre .1) no-data (at-freed .freed .result) laid word (at-put-word .put-word .ensures)
-    (at-put-partner .put-partner .ensures) (at-put-count .put-count .ensures) (at-put-cell .put-cell .ensures)
+    free-written st z (a .end .0) (start .pre .1) laid no-data (at-freed .freed .result) word
+    (at-put-word .put-word .ensures) (at-put-partner .put-partner .ensures) (at-put-count .put-count .ensures)
+    (at-put-cell .put-cell .ensures)
 
 pub free-spec : {M : Type 1} → statement M
 free-spec =

@@ -21,9 +21,11 @@ returns c st z laid p-free q-free differ =
     let at-second = c .before .before in
     let at-first = at-second .before .before .before .before in
     let a = at-first .before .before .before .args in
-    let st′ = setEnd st (a .p .0) (fresh-end (a .q .0)) in
-    let z′ = sized-anew st (a .p .0) (fresh-end (a .q .0)) z in
-    let still : endAt st′ (a .q .0) ≡ free-end = getD-set-other (st .ends) (a .p .0) (a .q .0) (fresh-end (a .q .0)) free-end (λ s. differ (sym s)) ∙ q-free in
+    let p = a .p .0 in
+    let q = a .q .0 in
+    let st′ = setEnd st p (fresh-end q) in
+    let z′ = sized-anew st p (fresh-end q) z in
+    let still : endAt st′ q ≡ free-end = getD-set-other (st .ends) p q (fresh-end q) free-end (λ s. differ (sym s)) ∙ q-free in
     at-second .take2 .ensures st′ z′ (at-first .take .ensures st z laid p-free) still
 
 pub pair-spec : {M : Type 1} → statement M

@@ -15,7 +15,7 @@ returns c st z laid used =
     let at-put-partner = c .before .before in
     let start = at-put-partner .before .before .before in
     let a = start .args in
-    partner-written st z (a .end .0) (start .pre .1) used (a .partner .0) laid (at-put-partner .put-partner .ensures)
+    partner-written st z (a .end .0) (start .pre .1) laid used (a .partner .0) (at-put-partner .put-partner .ensures)
 
 pub set-partner-spec : {M : Type 1} → statement M
 set-partner-spec = tie.close (tie.spec put-partner-requires same-length returns)

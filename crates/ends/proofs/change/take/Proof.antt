@@ -30,8 +30,8 @@ returns c st z laid is-free =
     let start = at-word .before .before .before in
     let a = start .args in
     let word = at-taken .taken .ensures st (fresh-end (a .partner .0)) z (at-word .free-word .ensures st z laid) refl in
-    fresh-written st z (a .end .0) (start .pre .1) is-free (a .partner .0) (at-taken .taken .result) laid word (at-put-word .put-word .ensures)
-    (at-put-partner .put-partner .ensures)
+    fresh-written st z (a .end .0) (start .pre .1) laid is-free (a .partner .0) (at-taken .taken .result) word
+    (at-put-word .put-word .ensures) (at-put-partner .put-partner .ensures)
 
 pub take-spec : {M : Type 1} → statement M
 take-spec =

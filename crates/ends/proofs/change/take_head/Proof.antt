@@ -72,8 +72,8 @@ returns-2 c st z laid fits =
     let inside = start .pre .1 in
     let count = at-count .get-count .ensures ∙ count-is st z (a .m .now) laid e inside in
     let cells = at-cells .get-cells .ensures ∙ cells-are st z (a .m .now) laid e inside fits in
-    take-written st z e inside fits (at-count .get-count .result) (at-cells .get-cells .result) laid count cells (at-put-cells .put-cells .ensures)
-    (at-put-count .put-count .ensures)
+    take-written st z e inside laid fits (at-count .get-count .result) (at-cells .get-cells .result) count cells
+    (at-put-cells .put-cells .ensures) (at-put-count .put-count .ensures)
 
 pub take-head-spec : {M : Type 1} → statement M
 take-head-spec =

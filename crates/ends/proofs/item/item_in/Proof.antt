@@ -52,7 +52,8 @@ returns-6 c =
     let not-one-to-four = not-one-to-five .0 in
     let not-one-to-three = not-one-to-four .0 in
     let not-one-to-two = not-one-to-three .0 in
-    sym (cell-of-no-kind (c .before .args .cell) (not-one-to-two .0 .1) (not-one-to-two .1) (not-one-to-three .1) (not-one-to-four .1) (not-one-to-five .1))
+    sym (cell-of-no-kind (c .before .args .cell) (not-one-to-two .0 .1) (not-one-to-two .1) (not-one-to-three .1) (not-one-to-four .1)
+    (not-one-to-five .1))
 
 pub item-in-spec : {M : Type 1} → statement M
 item-in-spec =

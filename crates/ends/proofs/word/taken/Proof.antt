@@ -17,8 +17,9 @@ returns : tie.Need-returns
 returns c st x z e u =
     let a = c .before .args in
     let inside : a .end .0 < length (st .ends) = rw (z .ends-sized) (c .before .pre) in
+    let after : ℕ = freeWord (setEnd st (a .end .0) x .ends) in
     rw (e, c .bit .ensures)
-    (subst (λ (n : ℕ). bitAnd (freeWord (st .ends)) (2 ^ n - 1 - 2 ^ (a .end .0)) ≡ freeWord (setEnd st (a .end .0) x .ends)) (z .ends-sized)
+    (subst (λ (n : ℕ). bitAnd (freeWord (st .ends)) (2 ^ n - 1 - 2 ^ (a .end .0)) ≡ after) (z .ends-sized)
     (word-taken (st .ends) (a .end .0) x inside u))
 
 pub taken-spec : {M : Type 1} → statement M

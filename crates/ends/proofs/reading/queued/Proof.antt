@@ -2,8 +2,8 @@
 use mathlib.Core.Path.{_∙_}
 use borrow.Author.Needs.{needs}
 use Rattle.ends.proofs.Shown.{count-is}
-use Rattle.ends.proofs.end.queued.Statement.{statement}
-use Rattle.ends.proofs.end.queued.Tie as tie
+use Rattle.ends.proofs.reading.queued.Statement.{statement}
+use Rattle.ends.proofs.reading.queued.Tie as tie
 
 get-count-requires : tie.Need-get-count-requires
 get-count-requires c κs = search needs

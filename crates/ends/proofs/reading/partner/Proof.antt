@@ -2,8 +2,8 @@
 use mathlib.Core.Path.{_∙_}
 use borrow.Author.Needs.{needs}
 use Rattle.ends.proofs.Shown.{partner-is}
-use Rattle.ends.proofs.end.partner.Statement.{statement}
-use Rattle.ends.proofs.end.partner.Tie as tie
+use Rattle.ends.proofs.reading.partner.Statement.{statement}
+use Rattle.ends.proofs.reading.partner.Tie as tie
 
 get-partner-requires : tie.Need-get-partner-requires
 get-partner-requires c κs = search needs

@@ -6,8 +6,8 @@ use Rattle.rules.specs.State.{endAt}
 use Rattle.ends.specs.Items.{cellItem}
 use Rattle.ends.proofs.Queues.{head-cell}
 use Rattle.ends.proofs.Shown.{cell-is}
-use Rattle.ends.proofs.end.head.Statement.{statement}
-use Rattle.ends.proofs.end.head.Tie as tie
+use Rattle.ends.proofs.reading.head.Statement.{statement}
+use Rattle.ends.proofs.reading.head.Tie as tie
 
 get-cell-requires : tie.Need-get-cell-requires
 get-cell-requires c κs = search needs

@@ -1,7 +1,7 @@
 -- `is_free` looks at the end's bit in the word of free ends. Assumes nothing.
 use borrow.Author.Needs.{needs}
-use Rattle.ends.proofs.end.is_free.Statement.{statement}
-use Rattle.ends.proofs.end.is_free.Tie as tie
+use Rattle.ends.proofs.reading.is_free.Statement.{statement}
+use Rattle.ends.proofs.reading.is_free.Tie as tie
 
 free-word-requires : tie.Need-free-word-requires
 free-word-requires c κs = search needs

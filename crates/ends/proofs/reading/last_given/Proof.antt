@@ -10,8 +10,8 @@ use Rattle.rules.specs.State.{endAt, queueLength}
 use Rattle.memory.specs.Sections.{cellsOf}
 use Rattle.ends.proofs.Queues.{last-cell, none-given}
 use Rattle.ends.proofs.Shown.{cell-is}
-use Rattle.ends.proofs.end.last_given.Statement.{statement}
-use Rattle.ends.proofs.end.last_given.Tie as tie
+use Rattle.ends.proofs.reading.last_given.Statement.{statement}
+use Rattle.ends.proofs.reading.last_given.Tie as tie
 
 queued-requires : tie.Need-queued-requires
 queued-requires c κs = search needs

@@ -2,8 +2,8 @@
 use mathlib.Core.Path.{_∙_}
 use borrow.Author.Needs.{needs}
 use Rattle.ends.proofs.Shown.{word-is}
-use Rattle.ends.proofs.end.free_word.Statement.{statement}
-use Rattle.ends.proofs.end.free_word.Tie as tie
+use Rattle.ends.proofs.reading.free_word.Statement.{statement}
+use Rattle.ends.proofs.reading.free_word.Tie as tie
 
 get-word-requires : tie.Need-get-word-requires
 get-word-requires c κs = search needs

@@ -1,0 +1,75 @@
+// One end of the state memory: is it free, its partner, how many items are queued on it, what heads its queue, and whether its last item is
+// given. Each answer is that of the state whose layout the memory is.
+ghost use mathlib.Core.Path.{_≡_};
+ghost use Prim.Native.Nat.{_≤_, _<_};
+ghost use lib.ListN.{length};
+ghost use Rattle.rules.specs.Limits.{endCount, queueDepth};
+ghost use Rattle.rules.specs.Numbers.{endNumber};
+ghost use Rattle.rules.specs.State.{State, endAt, endOr, isFreeEnd, partnerOf, queueLength, headOf, lastOf};
+ghost use Rattle.rules.specs.Layout.{stateSize, freeWord, layout};
+ghost use Rattle.keeping.proofs.LayoutLaws.{Sized};
+ghost use Rattle.ends.specs.Items.{headIn};
+ghost use Rattle.ends.specs.Sections.{countIn};
+ghost use Rattle.ends.specs.Ends.{EndFits, isGiven};
+use crate::item::Head;
+use crate::item::item_in;
+use crate::section::get_cell;
+use crate::section::get_count;
+use crate::section::get_partner;
+use crate::section::get_word;
+use crate::word::names;
+use rules::End;
+
+// The word of free ends.
+pub fn free_word(m: &[u8]) -> u64
+    requires { ⌜ length (now m) ≡ stateSize ⌝ }
+    ensures { λ r. ⌜ ((st : State) → Sized st → now (m .entry) ≡ layout st → r ≡ freeWord (st .ends)) ⌝ }
+{
+    get_word(m)
+}
+
+pub fn is_free(m: &[u8], end: End) -> bool
+    requires { ⌜ (length (now m) ≡ stateSize) × (endNumber end < endCount) ⌝ }
+    ensures { λ r. ⌜ ((st : State) → Sized st → now (m .entry) ≡ layout st → r ≡ isFreeEnd (endAt st (endNumber end))) ⌝ }
+{
+    names(free_word(m), end)
+}
+
+// The partner; of a free end, end 0.
+pub fn partner(m: &[u8], end: End) -> End
+    requires { ⌜ (length (now m) ≡ stateSize) × (endNumber end < endCount) ⌝ }
+    ensures { λ r. ⌜ ((st : State) → Sized st → now (m .entry) ≡ layout st
+        → endNumber r ≡ endOr 0 (partnerOf (endAt st (endNumber end)))) ⌝ }
+{
+    End(get_partner(m, end))
+}
+
+// How many items are queued.
+pub fn queued(m: &[u8], end: End) -> u8
+    requires { ⌜ (length (now m) ≡ stateSize) × (endNumber end < endCount) ⌝ }
+    ensures { λ r. ⌜ r ≡ countIn (now (m .entry)) (endNumber end) ⌝ }
+    ensures { λ r. ⌜ ((st : State) → Sized st → now (m .entry) ≡ layout st → r ≡ queueLength (endAt st (endNumber end))) ⌝ }
+{
+    get_count(m, end)
+}
+
+pub fn head(m: &[u8], end: End) -> Head
+    requires { ⌜ (length (now m) ≡ stateSize) × (endNumber end < endCount) ⌝ }
+    ensures { λ r. ⌜ ((st : State) → Sized st → now (m .entry) ≡ layout st → EndFits (endAt st (endNumber end))
+        → headIn r ≡ headOf (endAt st (endNumber end))) ⌝ }
+{
+    item_in(get_cell(m, end, 0))
+}
+
+// Is the last item given, a split, a close or a wait?
+pub fn last_given(m: &[u8], end: End) -> bool
+    requires { ⌜ (length (now m) ≡ stateSize) × (endNumber end < endCount) × (countIn (now m) (endNumber end) ≤ queueDepth) ⌝ }
+    ensures { λ r. ⌜ ((st : State) → Sized st → now (m .entry) ≡ layout st → EndFits (endAt st (endNumber end))
+        → r ≡ isGiven (lastOf (endAt st (endNumber end)))) ⌝ }
+{
+    let count = queued(m, end);
+    if count == 0 {
+        return false;
+    }
+    3 <= get_cell(m, end, count - 1) % 256
+}
