@@ -15,12 +15,16 @@ use Rattle.registers.specs.declared.Registers.{Registers}
 use Rattle.registers.specs.declared.records.Status.{Status}
 use Rattle.registers.specs.declared.records.Status.the-variants.{Free, Running, Waiting}
 
+-- the slots in their bytes: 0 for an empty slot, an end's number and one for a held one
+abbrev pub slotBytes : Slots → List ℕ
+slotBytes slots = map optional (pad slotCount none slots)
+
 unfoldable pub registersOf : Process → Registers
 registersOf g = record {
   place = g .place;
   «stack_count» = length (g .stack);
   «environment_count» = length (g .environment);
-  slots = map optional (pad slotCount none (g .slots));
+  slots = slotBytes (g .slots);
   stack = pad stackDepth (pos 0) (g .stack);
   environment = pad environmentDepth (pos 0) (g .environment);
 }

@@ -1,4 +1,5 @@
 // The registers of one process by value, and the process records in the lent state memory.
+mod listed;
 mod process;
 mod records;
 mod slots;
