@@ -4,7 +4,7 @@ use mathlib.Core.Path.{_≡_, refl, sym, ap, _∙_}
 use mathlib.Core.Bool.{Bool, true, false, not, xor, _||_}
 use mathlib.Core.Option.{Option, none, some}
 use mathlib.Core.List.{List, [], _∷_, map}
-use Prim.Native.Nat.{ℕ, zero, suc, _+_, _/_, _%_, _^_, _≤_, _<_}
+use Prim.Native.Nat.{ℕ, zero, suc, _+_, _-_, _/_, _%_, _^_, _≤_, _<_}
 use native.Mathlib.Nat.{div-one, div-div-eq-div-mul, pow-succ'}
 use native.Mathlib.Omega.{arith}
 use lib.ListN.{length, getD, set, length-set, length-map, List·getD-map, List·getD-eq-default}
@@ -105,3 +105,12 @@ held-byte (some n) e h = refl
 pub empty-byte : (o : Option ℕ) {x : ℕ} → x ≡ optional o → x ≡ 0 → isHeld o ≡ false
 empty-byte none e h = refl
 empty-byte (some n) e h = absurd (omega arith)
+
+-- what a slot's byte stands for
+pub byte-empty : (o : Option ℕ) {x : ℕ} → x ≡ optional o → x ≡ 0 → none ≡ o
+byte-empty none e h = refl
+byte-empty (some n) e h = absurd (omega arith)
+
+pub byte-held : (o : Option ℕ) {x : ℕ} → x ≡ optional o → (x ≡ 0 → ⊥) → some (x - 1) ≡ o
+byte-held none e h = absurd (h e)
+byte-held (some n) e h = ap some (omega arith)
