@@ -25,7 +25,8 @@ use Rattle.words.proofs.Tables.{table-is}
 use Rattle.keeping.proofs.LayoutLaws.{Sized, length-value, length-layout}
 use Rattle.memory.proofs.States.{record-number}
 use Rattle.registers.specs.declared.records.Status.the-variants.{Free, Running, Waiting}
-use Rattle.registers.specs.Registers.{registersIn, statusOf, valuesAt}
+use Rattle.registers.specs.Registers.{slotBytes, registersIn, statusOf, valuesAt}
+use Rattle.registers.proofs.SlotLaws.{length-slots}
 
 -- ---- status and registers
 
@@ -109,17 +110,14 @@ environmentFrom = stackFrom + valueSize * stackDepth
 abbrev pub numbers : ℕ → Process → List ℕ
 numbers status g = status ∷ (bytesOf 2 (g .place) ++ (length (g .stack) ∷ length (g .environment) ∷ []))
 
-abbrev pub slotBytes : Slots → List ℕ
-slotBytes slots = map optional (pad slotCount none slots)
-
 abbrev pub stackBytes : Process → List ℕ
 stackBytes g = flat valueBytes (pad stackDepth (pos 0) (g .stack))
 
 abbrev pub environmentBytes : Process → List ℕ
 environmentBytes g = flat valueBytes (pad environmentDepth (pos 0) (g .environment))
 
-pub length-slots : (slots : Slots) → length (slotBytes slots) ≡ slotCount
-length-slots slots = length-map (pad slotCount none slots) optional ∙ length-pad slotCount none slots
+
+
 
 pub length-stack : (g : Process) → length (stackBytes g) ≡ valueSize * stackDepth
 length-stack g =

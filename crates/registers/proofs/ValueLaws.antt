@@ -1,14 +1,15 @@
 -- Arrays of values: what a shift by one makes of a padded list. A signed number that is moved is read back from its bits, so each law asks that
 -- the values fit. Assumes nothing.
-use mathlib.Core.Path.{_≡_, refl, sym, ap, _∙_}
-use mathlib.Core.List.{List, [], _∷_, _++_}
+use mathlib.Core.Path.{_≡_, refl, sym, ap, _∙_, subst}
+use mathlib.Core.List.{List, [], _∷_, _++_, reverse, reverse-append}
 use Prim.Native.Nat.{ℕ, zero, suc, _+_, _-_, _≤_, _<_}
 use native.Mathlib.Nat.{le-of-suc-le-suc}
+use native.Mathlib.Numerals.{add-one}
 use native.Mathlib.Omega.{arith}
-use lib.ListN.{length, getD, drop, length-drop}
-use lib.Seq.{getD-drop}
+use lib.ListN.{length, getD, take, drop, length-drop}
+use lib.Seq.{getD-drop, drop-drop, take-suc}
 use lib.IntN.{ℤ, pos}
-use mir.Syntax.{w32}
+use mir.Syntax.{Width, w32}
 use mir.Val.{Val, toZ, ofZ, SFits}
 use mir.Facts.{toZ-ofZ}
 use denote.Signed.{SInt}
@@ -18,9 +19,10 @@ use denote.Laws.{Is}
 use borrow.Author.Needs.{needs}
 use Rattle.rules.specs.Limits.{stackDepth}
 use Rattle.rules.specs.Bytes.{pad, table}
-use Rattle.rules.specs.State.{Value}
+use Rattle.rules.specs.State.{Value, Registers as Process, registers}
 use Rattle.words.proofs.Pads.{length-pad, getD-pad}
 use Rattle.words.proofs.Tables.{table-is}
+use Rattle.registers.specs.Registers.{stored, passed}
 
 -- ---- the values of an array fit
 
@@ -95,3 +97,21 @@ two-for-one v l h e = omega (arith, length-drop 2 l)
 
 pub rest-fits : (l : List Value) → length l ≤ stackDepth → length (drop 1 l) ≤ stackDepth
 rest-fits l h = omega (arith, length-drop 1 l)
+
+-- ---- n values passed to a callee
+
+pub dropped-fits : (n : ℕ) (l : List Value) → length l ≤ stackDepth → length (drop n l) ≤ stackDepth
+dropped-fits n l h = omega (arith, length-drop n l)
+
+-- one more value
+pub stored-passed : (g : Process) (k : ℕ) → k < length (g .stack) → stored (passed g k) ≡ passed g (k + 1)
+stored-passed g k h = λ i. registers (g .place) (drop-drop 1 k (g .stack) i) (environment i) (g .slots)
+  where
+    newest : getD (drop k (g .stack)) 0 (pos 0) ≡ getD (g .stack) k (pos 0)
+    newest = getD-drop k (g .stack) 0 (pos 0) ∙ ap (λ (j : ℕ). getD (g .stack) j (pos 0)) (omega arith)
+
+    environment : getD (drop k (g .stack)) 0 (pos 0) ∷ reverse (take k (g .stack)) ≡ reverse (take (k + 1) (g .stack))
+    environment =
+        ap (λ (v : Value). v ∷ reverse (take k (g .stack))) newest
+        ∙ sym (reverse-append (take k (g .stack)) (getD (g .stack) k (pos 0) ∷ []))
+        ∙ ap reverse (sym (take-suc (g .stack) k (pos 0) h) ∙ ap (λ (j : ℕ). take j (g .stack)) (sym (add-one k)))

@@ -13,9 +13,10 @@ use Rattle.words.proofs.Parts.{put-append}
 use Rattle.keeping.proofs.LayoutLaws.{Sized}
 use Rattle.memory.proofs.States.{record-written}
 use Rattle.registers.specs.declared.Registers.{Registers}
-use Rattle.registers.specs.Registers.{registersIn}
+use Rattle.registers.specs.Registers.{slotBytes, registersIn}
 use Rattle.registers.proofs.Fields.{Holds}
-use Rattle.registers.proofs.RecordLaws.{slotsFrom, stackFrom, environmentFrom, numbers, slotBytes, stackBytes, environmentBytes, length-slots, length-stack, statusByte, record-bytes}
+use Rattle.registers.proofs.SlotLaws.{length-slots}
+use Rattle.registers.proofs.RecordLaws.{slotsFrom, stackFrom, environmentFrom, numbers, stackBytes, environmentBytes, length-stack, statusByte, record-bytes}
 
 -- status, place and counts
 pub numbers-written : (m : List ℕ) (at status place stack environment : ℕ) {m₁ m₂ m₃ m₄ : List ℕ}

@@ -1,26 +1,33 @@
 use Prim.Native.Nat.{ℕ, _+_, _*_}
-use mathlib.Core.Option.{none}
-use mathlib.Core.List.{List, _∷_, map}
-use lib.ListN.{length, drop}
+use mathlib.Core.Option.{Option, none, some}
+use mathlib.Core.List.{List, _∷_, map, reverse}
+use lib.ListN.{length, take, drop}
 use lib.IntN.{pos}
 use mir.Syntax.{w32}
 use mir.Val.{toZ}
 use Rattle.rules.specs.Limits.{slotCount, stackDepth, environmentDepth}
 use Rattle.rules.specs.Bytes.{pad, table, numberAt}
 use Rattle.rules.specs.State.{Value, Registers as Process, registers, RecordState, free-record, running, waiting}
-use Rattle.rules.specs.Slots.{Slots}
+use Rattle.rules.specs.Slots.{Slots, calleeSlots}
 use Rattle.rules.specs.Causes.{top}
 use Rattle.rules.specs.Layout.{valueSize, optional, noRegisters}
 use Rattle.registers.specs.declared.Registers.{Registers}
+use Rattle.rules.specs.Numbers.{endNumber}
+use Rattle.registers.specs.declared.process.Held.{Held}
+use Rattle.registers.specs.declared.process.Held.the-variants.{Empty, Holds}
 use Rattle.registers.specs.declared.records.Status.{Status}
 use Rattle.registers.specs.declared.records.Status.the-variants.{Free, Running, Waiting}
+
+-- the slots in their bytes: 0 for an empty slot, an end's number and one for a held one
+abbrev pub slotBytes : Slots → List ℕ
+slotBytes slots = map optional (pad slotCount none slots)
 
 unfoldable pub registersOf : Process → Registers
 registersOf g = record {
   place = g .place;
   «stack_count» = length (g .stack);
   «environment_count» = length (g .environment);
-  slots = map optional (pad slotCount none (g .slots));
+  slots = slotBytes (g .slots);
   stack = pad stackDepth (pos 0) (g .stack);
   environment = pad environmentDepth (pos 0) (g .environment);
 }
@@ -61,3 +68,16 @@ abbrev pub statusOf : RecordState → Status
 statusOf free-record = Free
 statusOf (running g) = Running
 statusOf (waiting g) = Waiting
+
+-- n values popped are the environment, the last one popped first
+abbrev pub passed : Process → ℕ → Process
+passed g n = registers (g .place) (drop n (g .stack)) (reverse (take n (g .stack))) (g .slots)
+
+-- the registers of a callee, at a place, with n values and the listed slots
+abbrev pub called : Process → (place n : ℕ) → List ℕ → Process
+called g place n cs = registers place (drop n (g .stack)) (reverse (take n (g .stack))) (calleeSlots (g .slots) cs)
+
+-- what a local slot stands for
+abbrev pub heldEnd : Held → Option ℕ
+heldEnd Empty = none
+heldEnd (Holds e) = some (endNumber e)

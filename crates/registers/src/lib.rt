@@ -1,9 +1,13 @@
 // The registers of one process by value, and the process records in the lent state memory.
+mod listed;
 mod process;
 mod records;
 mod slots;
 mod values;
 
+pub use listed::any_over;
+pub use listed::any_repeated;
+pub use process::Held;
 pub use process::Popped;
 pub use records::Status;
 pub use records::clear;
@@ -13,6 +17,8 @@ pub use records::lowest_free_record;
 pub use records::save_running;
 pub use records::save_waiting;
 pub use records::status_of;
+pub use slots::in_set;
+pub use slots::overlap;
 
 // The registers of one process.
 pub struct Registers {

@@ -35,15 +35,18 @@ add-self c = search needs
 
 -- src/process.rt:55:5
 returns : tie.Need-returns
-returns c g n e =
-    let at-front = c .before .before in
-    let at-rest = at-front .before .before in
-    let h = holds g e in
-    let stack = at-rest .behind-first .ensures (g .stack) n (h .stack-is) in
-    let rest = with-stack g h (drop 1 (g .stack)) (one-less (g .stack) (h .stack-count-is)) stack in
-    let newest = toZ-ofZ (record { sfits = at-front .before .in-front-arg .given }) ∙ first-is (g .stack) (h .stack-is) in
-    let environment = at-front .in-front .ensures (g .environment) (h .environment-is) ∙ front-is (g .environment) newest in
-    held _ (with-environment _ rest (top g ∷ g .environment) (one-more (top g) (g .environment) (h .environment-count-is)) environment)
+returns c = (
+  (omega arith, omega arith),
+  λ g n e.
+  let at-front = c .before .before in
+  let at-rest = at-front .before .before in
+  let h = holds g e in
+  let stack = at-rest .behind-first .ensures (g .stack) n (h .stack-is) in
+  let rest = with-stack g h (drop 1 (g .stack)) (one-less (g .stack) (h .stack-count-is)) stack in
+  let newest = toZ-ofZ (record { sfits = at-front .before .in-front-arg .given }) ∙ first-is (g .stack) (h .stack-is) in
+  let environment = at-front .in-front .ensures (g .environment) (h .environment-is) ∙ front-is (g .environment) newest in
+  held _ (with-environment _ rest (top g ∷ g .environment) (one-more (top g) (g .environment) (h .environment-count-is)) environment),
+)
 
 pub store-spec : {M : Type 1} → statement M
 store-spec =
