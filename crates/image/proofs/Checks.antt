@@ -24,7 +24,7 @@ unfolding wordSum
 sum-end bytes i h = rw (drop-of-length-le bytes h)
 
 -- two foldings leave no carry, for the sum of 255 words
-pub folded-small : {s t u : ℕ} → s ≤ 16711425 → t ≡ folded s → u ≡ folded t → u ≤ 65535
+pub folded-small : {s t u : ℕ} → s ≤ 65535 * 255 → t ≡ folded s → u ≡ folded t → u ≤ 65535
 unfolding folded
 folded-small h p q = omega arith
 

@@ -1,6 +1,6 @@
 // One block: 510 bytes of data, then their RFC 1071 check, high byte first. And how many blocks a code fills.
 ghost use mathlib.Core.Path.{_≡_};
-ghost use Prim.Native.Nat.{_≤_, _<_};
+ghost use Prim.Native.Nat.{_*_, _≤_, _<_};
 ghost use lib.ListN.{length, take};
 ghost use lib.Dec.{eqb};
 ghost use Rattle.words.specs.Parts.{highAt};
@@ -20,6 +20,7 @@ pub const HEAD_SIZE: usize = 4;
 // The words of a block's data.
 const WORD_COUNT: usize = 255;
 
+// A word that is added up.
 fn wide(n: u16) -> u32
     ensures { λ r. ⌜ r ≡ n ⌝ }
 {
@@ -30,7 +31,7 @@ fn wide(n: u16) -> u32
 fn word_sum(bytes: &[u8]) -> u32
     requires { ⌜ length (now bytes) ≡ dataSize ⌝ }
     ensures { λ r. ⌜ r ≡ wordSum (now (bytes .entry)) ⌝ }
-    ensures { λ r. ⌜ r ≤ 16711425 ⌝ }
+    ensures { λ r. ⌜ r ≤ 65535 * 255 ⌝ }
 {
     let mut sum = 0;
     let mut i = 0;
@@ -67,7 +68,7 @@ pub fn right(block: &[u8]) -> bool
     check(&block[..DATA_SIZE]) == words::get16_high(block, DATA_SIZE)
 }
 
-// The fewest blocks that hold a code of this length and what stands before it.
+// The fewest blocks that hold a code of this length and what stands before it. Every slice is shorter than what is asked.
 pub fn block_count(length: usize) -> usize
     requires { ⌜ length < 9223372036854775808 ⌝ }
     ensures { λ r. ⌜ r ≡ blockCount length ⌝ }

@@ -75,6 +75,7 @@ pub fn read(image: &[u8]) -> Found
     reading::read_data(image, count)
 }
 
+// The lesser of two numbers.
 fn least(a: usize, b: usize) -> usize
     ensures { λ r. ⌜ r ≡ min a b ⌝ }
 {

@@ -1,6 +1,5 @@
 -- `write` tests the rows of 26 and 27 in their order, and writes the blocks. Assumes nothing.
 use Prim.Native.Nat.{ℕ, _*_, _≤_}
-use native.Mathlib.Omega.{arith}
 use lib.ListN.{length}
 use borrow.Author.Needs.{needs}
 use borrow.Author.Tests.{eq-eqb, ne-eqb, lt-ltb, le-ltb}
@@ -74,7 +73,8 @@ write-blocks-requires c κs =
     let at-few = c .before .before in
     let at-count = at-few .before .before in
     let code = at-count .before .before .before .args .code .now in
-    let few : at-count .block-count .result ≤ blockLimit = rw (at-count .block-count .ensures) (few-blocks (length code) (at-few .if2 .left)) in
+    let few : at-count .block-count .result ≤ blockLimit
+    = rw (at-count .block-count .ensures) (few-blocks (length code) (at-few .if2 .left)) in
     (search needs, (few, search needs))
 
 same-length : tie.Need-same-length
