@@ -85,7 +85,8 @@ pub fn read(memory: &[u8; STATE_SIZE]) -> Option<State> {
     read_parts(memory).filter(sound)
 }
 
-/// The state that a memory holds, if S1 is met.
+/// (S1) Every count and number is within the limits, code length at most 8,156, unused cells zero: then this is the state that the
+/// memory holds. Of a free end the partner and the queue are unused.
 fn read_parts(memory: &[u8]) -> Option<State> {
     let mut memory = Parts(memory);
     let code_length = usize::from(u16::from_le_bytes(*memory.next()?));
