@@ -15,7 +15,7 @@ use Rattle.registers.specs.declared.records.Status.{Status}
 use denote.Enum.Declared.{tagOf}
 use types.Run.{OneOf}
 use Rattle.registers.proofs.records.Status.{the-type}
-use Rattle.registers.specs.declared.records.Status.the-variants.{Free}
+use Rattle.registers.specs.declared.records.Status.the-variants.{Free, Running, Waiting}
 use Rattle.registers.specs.Registers.{statusOf}
 
 -- ---- what the status says

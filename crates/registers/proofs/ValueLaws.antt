@@ -75,9 +75,9 @@ module _ (n : ℕ) (a l : List Value) (fits : (i : ℕ) → SFits w32 (getD a i 
       (λ i p. read-pad (suc i) (omega arith) ∙ ap (λ (k : ℕ). getD l k (pos 0)) (omega arith) ∙ sym (getD-drop 1 l i (pos 0))))
       ∙ pad-more n (drop 1 l) rest
 
--- the first
-pub first-is : {a : List Value} (l : List Value) → a ≡ pad stackDepth (pos 0) l → getD a 0 (pos 0) ≡ getD l 0 (pos 0)
-first-is l e = ap (λ (x : List Value). getD x 0 (pos 0)) e ∙ getD-pad stackDepth (pos 0) l 0 (omega arith)
+-- the value in cell i
+pub value-is : (i : ℕ) {a : List Value} (l : List Value) → i < stackDepth → a ≡ pad stackDepth (pos 0) l → getD a i (pos 0) ≡ getD l i (pos 0)
+value-is i l h e = ap (λ (x : List Value). getD x i (pos 0)) e ∙ getD-pad stackDepth (pos 0) l i h
 
 -- another value in front
 pub front-is : (l : List Value) {v w : Value} → v ≡ w → pad stackDepth (pos 0) (v ∷ l) ≡ pad stackDepth (pos 0) (w ∷ l)

@@ -17,6 +17,9 @@ pub use records::lowest_free_record;
 pub use records::save_running;
 pub use records::save_waiting;
 pub use records::status_of;
+use rules::ENVIRONMENT_DEPTH;
+use rules::SLOT_COUNT;
+use rules::STACK_DEPTH;
 pub use slots::in_set;
 pub use slots::overlap;
 
@@ -26,9 +29,9 @@ pub struct Registers {
     pub stack_count: u8,
     pub environment_count: u8,
     // 0 for an empty slot, else the end's number and one
-    pub slots: [u8; 8],
+    pub slots: [u8; SLOT_COUNT],
     // top first, zeros behind the count
-    pub stack: [i32; 16],
+    pub stack: [i32; STACK_DEPTH],
     // newest first, zeros behind the count
-    pub environment: [i32; 16],
+    pub environment: [i32; ENVIRONMENT_DEPTH],
 }

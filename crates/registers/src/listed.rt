@@ -9,6 +9,8 @@ ghost use Rattle.rules.specs.Slots.{Slots, anyOver, anyEmpty, listed as inList,
 ghost use Rattle.rules.specs.Layout.{optional};
 ghost use Rattle.registers.specs.Registers.{slotBytes};
 use crate::slots;
+use rules::SLOT_COUNT;
+use rules::Slot;
 
 // Some listed slot is over the last slot's number.
 pub fn any_over(listed: &[u8]) -> bool
@@ -16,7 +18,7 @@ pub fn any_over(listed: &[u8]) -> bool
 {
     let mut k = 0;
     while k < listed.len() {
-        if 8 <= listed[k] {
+        if SLOT_COUNT <= listed[k] as usize {
             return true;
         }
         k += 1;
@@ -25,12 +27,12 @@ pub fn any_over(listed: &[u8]) -> bool
 }
 
 // Some listed slot is empty.
-pub fn any_empty(held: [u8; 8], listed: &[u8]) -> bool
+pub fn any_empty(held: [u8; SLOT_COUNT], listed: &[u8]) -> bool
     ensures { λ r. ⌜ ((l : Slots) → length l ≡ slotCount → held ≡ slotBytes l → r ≡ anyEmpty l (now (listed .entry))) ⌝ }
 {
     let mut k = 0;
     while k < listed.len() {
-        if slots::at(held, listed[k]) == 0 {
+        if slots::at(held, Slot(listed[k])) == 0 {
             return true;
         }
         k += 1;
@@ -67,13 +69,13 @@ pub fn any_repeated(listed: &[u8]) -> bool
 }
 
 // The slots with each listed one emptied.
-pub fn emptied(held: [u8; 8], listed: &[u8]) -> [u8; 8]
+pub fn emptied(held: [u8; SLOT_COUNT], listed: &[u8]) -> [u8; SLOT_COUNT]
     ensures { λ r. ⌜ ((l : Slots) → length l ≡ slotCount → held ≡ slotBytes l → r ≡ slotBytes (allEmptied l (now (listed .entry)))) ⌝ }
 {
     let mut rest = held;
     let mut k = 0;
     while k < listed.len() {
-        let next = slots::put(rest, listed[k], 0);
+        let next = slots::put(rest, Slot(listed[k]), 0);
         rest = next;
         k += 1;
     }
@@ -81,23 +83,23 @@ pub fn emptied(held: [u8; 8], listed: &[u8]) -> [u8; 8]
 }
 
 // What the k-th listed slot holds; nothing where fewer are listed.
-fn given(held: [u8; 8], listed: &[u8], k: usize) -> u8
+fn given(held: [u8; SLOT_COUNT], listed: &[u8], k: usize) -> u8
     ensures { λ r. ⌜ ((l : Slots) → length l ≡ slotCount → held ≡ slotBytes l
         → r ≡ optional (getD (map (λ (c : ℕ). getD l c none) (now (listed .entry))) k none)) ⌝ }
 {
     if listed.len() <= k {
         return 0;
     }
-    slots::at(held, listed[k])
+    slots::at(held, Slot(listed[k]))
 }
 
 // A callee's slots: slot i gets the end of the i-th listed slot, the others are empty.
-pub fn callee(held: [u8; 8], listed: &[u8]) -> [u8; 8]
+pub fn callee(held: [u8; SLOT_COUNT], listed: &[u8]) -> [u8; SLOT_COUNT]
     ensures { λ r. ⌜ ((l : Slots) → length l ≡ slotCount → held ≡ slotBytes l → r ≡ slotBytes (calleeSlots l (now (listed .entry)))) ⌝ }
 {
-    let mut slots = [0; 8];
+    let mut slots = [0; SLOT_COUNT];
     let mut k = 0;
-    while k < 8 {
+    while k < SLOT_COUNT {
         slots[k] = given(held, listed, k);
         k += 1;
     }

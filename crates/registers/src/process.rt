@@ -7,7 +7,7 @@ ghost use lib.ListN.{length, drop, set};
 ghost use Rattle.rules.specs.Limits.{stackDepth, environmentDepth, slotCount, endCount};
 ghost use Rattle.rules.specs.State.{Registers as Process, registers, slotAt};
 ghost use Rattle.rules.specs.Slots.{emptied, holding, keptBy, anyHeld, notTogether, anyEmpty, allEmptied};
-ghost use Rattle.rules.specs.Causes.{top};
+ghost use Rattle.rules.specs.Causes.{top, below};
 ghost use Rattle.rules.specs.RecordStep.{branch};
 ghost use Rattle.rules.specs.Layout.{optional};
 ghost use Rattle.rules.specs.Numbers.{slotNumber, endNumber};
@@ -16,7 +16,9 @@ use crate::Registers;
 use crate::listed;
 use crate::slots;
 use crate::values;
+use rules::ENVIRONMENT_DEPTH;
 use rules::End;
+use rules::STACK_DEPTH;
 use rules::Slot;
 
 // What a local slot stands for: an end, or none.
@@ -59,6 +61,22 @@ impl Registers {
             value: values[0],
             registers: self,
         }
+    }
+
+    // The value on top, 0 of an empty stack.
+    pub fn top(self) -> i32
+        ensures { λ r. ⌜ ((g : Process) → self ≡ registersOf g → r ≡ top g) ⌝ }
+    {
+        let values = self.stack;
+        values[0]
+    }
+
+    // The value below the top, 0 where there is none.
+    pub fn below(self) -> i32
+        ensures { λ r. ⌜ ((g : Process) → self ≡ registersOf g → r ≡ below g) ⌝ }
+    {
+        let values = self.stack;
+        values[1]
     }
 
     // The top goes to the front of the environment.
@@ -105,7 +123,7 @@ impl Registers {
         ensures { λ r. ⌜ ((g : Process) → length (g .slots) ≡ slotCount → self ≡ registersOf g → heldEnd r ≡ slotAt g (slotNumber c)) ⌝ }
     {
         let held = self.slots;
-        let x = slots::at(held, c.0);
+        let x = slots::at(held, c);
         if x == 0 {
             return Held::Empty;
         }
@@ -118,7 +136,7 @@ impl Registers {
             → r ≡ registersOf (withSlots g (set (g .slots) (slotNumber c) o))) ⌝ }
     {
         let held = self.slots;
-        let slots = slots::put(held, c.0, x);
+        let slots = slots::put(held, c, x);
         self.slots = slots;
         self
     }
@@ -149,7 +167,7 @@ impl Registers {
         let held = self.slots;
         let slots = slots::kept(held, m);
         self.slots = slots;
-        self.stack = [0; 16];
+        self.stack = [0; STACK_DEPTH];
         self.stack_count = 0;
         self.place = place;
         self
@@ -169,7 +187,7 @@ impl Registers {
         requires { ⌜ (n ≤ self .«stack_count») × (n ≤ environmentDepth) ⌝ }
         ensures { λ r. ⌜ ((g : Process) → length (g .stack) ≤ stackDepth → self ≡ registersOf g → r ≡ registersOf (passed g n)) ⌝ }
     {
-        self.environment = [0; 16];
+        self.environment = [0; ENVIRONMENT_DEPTH];
         self.environment_count = 0;
         let mut callee = self;
         let mut k = 0;

@@ -16,7 +16,23 @@ ghost use Rattle.registers.specs.Registers.{registersOf, registersIn, st
 use crate::Registers;
 use crate::slots;
 use crate::values;
+use rules::CODE_LIMIT;
+use rules::ENVIRONMENT_DEPTH;
+use rules::RECORD_COUNT;
 use rules::Record;
+use rules::SLOT_COUNT;
+use rules::STACK_DEPTH;
+
+// Where the records stand, and where in a record its slots, stack and environment do (docs/STATE.md).
+const RECORDS_AT: usize = 2 + CODE_LIMIT;
+
+const SLOTS_FROM: usize = 5;
+
+const STACK_FROM: usize = SLOTS_FROM + SLOT_COUNT;
+
+const ENVIRONMENT_FROM: usize = STACK_FROM + 4 * STACK_DEPTH;
+
+const RECORD_SIZE: usize = ENVIRONMENT_FROM + 4 * ENVIRONMENT_DEPTH;
 
 // What a record is.
 pub enum Status {
@@ -30,7 +46,7 @@ fn start_of(r: Record) -> usize
     ensures { λ at. ⌜ at ≡ recordsAt + recordSize * recordNumber r ⌝ }
 {
     let n = r.0;
-    8158 + 141 * n as usize
+    RECORDS_AT + RECORD_SIZE * n as usize
 }
 
 // What record r is.
@@ -55,9 +71,9 @@ pub fn load(m: &[u8], r: Record) -> Registers
     let place = words::get16(m, at + 1);
     let stack_count = words::get8(m, at + 3);
     let environment_count = words::get8(m, at + 4);
-    let slots = slots::read(m, at + 5);
-    let stack = values::read(m, at + 13);
-    let environment = values::read(m, at + 77);
+    let slots = slots::read(m, at + SLOTS_FROM);
+    let stack = values::read(m, at + STACK_FROM);
+    let environment = values::read(m, at + ENVIRONMENT_FROM);
     Registers {
         place,
         stack_count,
@@ -75,7 +91,7 @@ pub fn environment_value(m: &[u8], r: Record, n: u8) -> i32
     ensures { λ v. ⌜ ((st : State) → Sized st → RecordWithin (recordAt st (recordNumber r)) → now (m .entry) ≡ layout st
         → v ≡ getD (registersIn (recordAt st (recordNumber r)) .environment) n (pos 0)) ⌝ }
 {
-    words::get_signed(m, start_of(r) + 77 + 4 * n as usize)
+    words::get_signed(m, start_of(r) + ENVIRONMENT_FROM + 4 * n as usize)
 }
 
 // The numbers at the front of a record.
@@ -106,11 +122,11 @@ fn save(m: &mut [u8], r: Record, status: u8, x: Registers)
     let at = start_of(r);
     write_numbers(m, at, status, x.place, x.stack_count, x.environment_count);
     let held = x.slots;
-    slots::write(m, at + 5, held);
+    slots::write(m, at + SLOTS_FROM, held);
     let stack = x.stack;
-    values::write(m, at + 13, stack);
+    values::write(m, at + STACK_FROM, stack);
     let environment = x.environment;
-    values::write(m, at + 77, environment);
+    values::write(m, at + ENVIRONMENT_FROM, environment);
 }
 
 // Record r runs with these registers.
@@ -137,7 +153,7 @@ pub fn clear(m: &mut [u8], r: Record)
     ensures { λ _. ⌜ ((st : State) → Sized st → now (m .entry) ≡ layout st
         → now (m .exit) ≡ layout (setRecord st (recordNumber r) free-record)) ⌝ }
 {
-    let zeros = [0; 141];
+    let zeros = [0; RECORD_SIZE];
     words::copy(&zeros, m, start_of(r));
 }
 
@@ -147,11 +163,11 @@ pub fn lowest_free_record(m: &[u8]) -> Record
     ensures { λ r. ⌜ ((st : State) → Sized st → now (m .entry) ≡ layout st → recordNumber r ≡ lowestFreeRecord st) ⌝ }
 {
     let mut k = 0;
-    while k < 32 {
+    while k < RECORD_COUNT as u8 {
         if let Status::Free = status_of(m, Record(k)) {
             return Record(k);
         }
         k += 1;
     }
-    Record(32)
+    Record(RECORD_COUNT as u8)
 }

@@ -10,9 +10,13 @@ ghost use Rattle.rules.specs.State.{Value};
 ghost use Rattle.rules.specs.Layout.{valueSize, valueBytes};
 ghost use Rattle.words.specs.Parts.{putAt};
 ghost use Rattle.registers.specs.Registers.{valuesAt};
+use rules::STACK_DEPTH;
+
+// Bytes of a value.
+const VALUE_SIZE: usize = 4;
 
 // v in front of the values.
-pub fn in_front(v: i32, values: [i32; 16]) -> [i32; 16]
+pub fn in_front(v: i32, values: [i32; STACK_DEPTH]) -> [i32; STACK_DEPTH]
     ensures { λ r. ⌜ ((l : List Value) → values ≡ pad stackDepth (pos 0) l → r ≡ pad stackDepth (pos 0) (v ∷ l)) ⌝ }
 {
     [
@@ -36,7 +40,7 @@ pub fn in_front(v: i32, values: [i32; 16]) -> [i32; 16]
 }
 
 // The values behind the first.
-pub fn behind_first(values: [i32; 16]) -> [i32; 16]
+pub fn behind_first(values: [i32; STACK_DEPTH]) -> [i32; STACK_DEPTH]
     ensures { λ r. ⌜ ((l : List Value) → length l ≤ stackDepth → values ≡ pad stackDepth (pos 0) l
         → r ≡ pad stackDepth (pos 0) (drop 1 l)) ⌝ }
 {
@@ -61,27 +65,27 @@ pub fn behind_first(values: [i32; 16]) -> [i32; 16]
 }
 
 // The values that stand in m from `at` on.
-pub fn read(m: &[u8], at: usize) -> [i32; 16]
+pub fn read(m: &[u8], at: usize) -> [i32; STACK_DEPTH]
     requires { ⌜ at + valueSize * stackDepth ≤ length (now m) ⌝ }
     ensures { λ r. ⌜ r ≡ valuesAt (now (m .entry)) at ⌝ }
 {
-    let mut values = [0; 16];
+    let mut values = [0; STACK_DEPTH];
     let mut k = 0;
-    while k < 16 {
-        values[k] = words::get_signed(m, at + 4 * k);
+    while k < STACK_DEPTH {
+        values[k] = words::get_signed(m, at + VALUE_SIZE * k);
         k += 1;
     }
     values
 }
 
 // The values go into m from `at` on.
-pub fn write(m: &mut [u8], at: usize, values: [i32; 16])
+pub fn write(m: &mut [u8], at: usize, values: [i32; STACK_DEPTH])
     requires { ⌜ at + valueSize * stackDepth ≤ length (now m) ⌝ }
     ensures { λ _. ⌜ now (m .exit) ≡ putAt (now (m .entry)) at (flat valueBytes values) ⌝ }
 {
     let mut k = 0;
-    while k < 16 {
-        words::put_signed(m, at + 4 * k, values[k]);
+    while k < STACK_DEPTH {
+        words::put_signed(m, at + VALUE_SIZE * k, values[k]);
         k += 1;
     }
 }

@@ -77,7 +77,7 @@ returns-3 c g is =
     let enough = le-ltb (length (g .stack)) 1 (omega (arith, at-if1 .if1 .left, stack-count g x)) in
     let room = lt-leb environmentDepth (length (g .environment)) (omega (arith, at-if2 .if2 .left, environment-count g x)) in
     let within = registers-ok m s _ g is .stack-within in
-    let moved = at-at .at .ensures (stored g) (at-store .store .ensures g within x) in
+    let moved = at-at .at .ensures (stored g) (at-store .store .ensures .1 g within x) in
     done-step m _ (store-done (view m) _ _ g enough room)
     (at-save .save-running .ensures (view m) _ (sized m s _ g is) (s .laid-out) moved)
 

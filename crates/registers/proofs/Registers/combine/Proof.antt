@@ -1,5 +1,6 @@
 use mathlib.Core.Path.{ap, _∙_}
 use mathlib.Core.List.{_∷_}
+use native.Mathlib.Omega.{arith}
 use lib.ListN.{drop}
 use lib.Seq.{drop-drop}
 use lib.IntN.{pos}

@@ -16,7 +16,7 @@ use Rattle.registers.proofs.Registers.pass.Statement.{statement}
 use Rattle.registers.proofs.Registers.pass.Tie as tie
 
 abbrev Inv-loop : tie.InvT-loop
-Inv-loop n callee₀ k₀ callee k = 
+Inv-loop n callee₀ k₀ callee k =
     (k ≤ n) × (callee .«stack_count» ≡ callee₀ .«stack_count» - k) × (callee .«environment_count» ≡ callee₀ .«environment_count» + k)
     × ((g : Process) → length (g .stack) ≤ stackDepth → callee₀ ≡ registersOf (registers (g .place) (g .stack) [] (g .slots))
     → callee ≡ registersOf (passed g k))
@@ -39,11 +39,15 @@ loop-less c = search needs
 loop-again : tie.Need-loop-again Inv-loop μ-loop
 loop-again c =
     let at-loop = c .before .before in
-    let p = at-loop .loop in
-    (omega arith, omega arith, omega arith, λ g n e.
-    let count = holds _ e .stack-count-is in
-    c .store .ensures .1 (passed g (p .k)) (dropped-fits (p .k) (g .stack) n) (p .inv .3 g n e)
-    ∙ ap registersOf (stored-passed g (p .k) (omega arith)))
+    let p = at-loop .loop in (
+      omega arith,
+      omega arith,
+      omega arith,
+      λ g n e.
+          let count = holds _ e .stack-count-is in
+          c .store .ensures .1 (passed g (p .k)) (dropped-fits (p .k) (g .stack) n) (p .inv .3 g n e)
+          ∙ ap registersOf (stored-passed g (p .k) (omega arith)),
+    )
 
 returns : tie.Need-returns Inv-loop μ-loop
 unfolding pad

@@ -1,8 +1,11 @@
-use mathlib.Core.Path.{_∙_}
+use mathlib.Core.Path.{ap, _∙_}
+use native.Mathlib.Omega.{arith}
 use lib.ListN.{drop}
+use mir.Syntax.{w32}
+use mir.Val.{SFits}
 use mir.Facts.{toZ-ofZ}
 use Rattle.registers.proofs.Fields.{holds, held, with-stack}
-use Rattle.registers.proofs.ValueLaws.{first-is, one-less}
+use Rattle.registers.proofs.ValueLaws.{value-is, one-less}
 use borrow.Author.Needs.{needs}
 use Rattle.registers.proofs.Registers.pop.Statement.{statement}
 use Rattle.registers.proofs.Registers.pop.Tie as tie
@@ -27,7 +30,7 @@ returns : tie.Need-returns
 returns c g n e =
     let at-rest = c .before .before in
     let h = holds g e in (
-      toZ-ofZ (record { sfits = c .t7 .given }) ∙ first-is (g .stack) (h .stack-is),
+      toZ-ofZ (record { sfits = c .t7 .given }) ∙ value-is 0 (g .stack) (omega arith) (h .stack-is),
       held _ (with-stack g h (drop 1 (g .stack)) (one-less (g .stack) (h .stack-count-is)) (at-rest .behind-first .ensures (g .stack) n (h .stack-is))),
     )
 

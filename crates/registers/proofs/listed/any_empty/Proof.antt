@@ -16,7 +16,7 @@ use Rattle.registers.proofs.listed.any_empty.Statement.{statement}
 use Rattle.registers.proofs.listed.any_empty.Tie as tie
 
 abbrev Inv-loop : tie.InvT-loop
-Inv-loop held listed k₀ k = 
+Inv-loop held listed k₀ k =
     (k ≤ length listed)
     × ((l : Slots) → length l ≡ slotCount → held ≡ slotBytes l → anyEmpty l listed ≡ anyEmpty l (drop k listed))
 
@@ -26,8 +26,8 @@ abbrev μ-loop : tie.MeasureT-loop
 loop-holds : tie.Need-loop-holds Inv-loop μ-loop
 loop-holds c = (omega arith, λ l n e. refl)
 
-shared-slice-read-at : tie.Need-shared-slice-read-at Inv-loop μ-loop
-shared-slice-read-at c = search needs
+shared-slice-read-t8 : tie.Need-shared-slice-read-t8 Inv-loop μ-loop
+shared-slice-read-t8 c = search needs
 
 at-requires : tie.Need-at-requires Inv-loop μ-loop
 at-requires c κs = search needs
@@ -53,11 +53,13 @@ loop-again c =
     let at-at = c .before in
     let at-loop = at-at .before .before .before in
     let cs = at-loop .before .before .args .listed .now in
-    let k = at-loop .loop .k in
-    (omega arith, λ l n e.
-    let slot = at-at .at .ensures l n e in
-    passed (empty-search l) 0 tt tt cs k (at-loop .loop .inv .1 l n e) (omega arith)
-    (ap not (held-byte (getD l (getD cs k 0) none) slot (c .if1 .left))))
+    let k = at-loop .loop .k in (
+      omega arith,
+      λ l n e.
+          let slot = at-at .at .ensures l n e in
+          passed (empty-search l) 0 tt tt cs k (at-loop .loop .inv .1 l n e) (omega arith)
+          (ap not (held-byte (getD l (getD cs k 0) none) slot (c .if1 .left))),
+    )
 
 returns-2 : tie.Need-returns-2 Inv-loop μ-loop
 returns-2 c l n e =
@@ -72,7 +74,7 @@ any-empty-spec =
     Inv-loop
     μ-loop
     loop-holds
-    shared-slice-read-at
+    shared-slice-read-t8
     at-requires
     returns
     add-k

@@ -19,8 +19,8 @@ returns c l n e =
     (sym (List·getD-eq-default (given l (a .listed .now)) none (rw length-map (c .if1 .taken))))
 
 -- src/listed.rt:90:21
-shared-slice-read-at : tie.Need-shared-slice-read-at
-shared-slice-read-at c = search needs
+shared-slice-read-t7 : tie.Need-shared-slice-read-t7
+shared-slice-read-t7 c = search needs
 
 -- src/listed.rt:90:5
 at-requires : tie.Need-at-requires
@@ -33,4 +33,4 @@ returns-2 c l n e =
     c .at .ensures l n e ∙ ap optional (given-at l (a .listed .now) (a .k) (c .before .before .if1 .left))
 
 pub given-spec : {M : Type 1} → statement M
-given-spec = tie.close (tie.spec returns shared-slice-read-at at-requires returns-2)
+given-spec = tie.close (tie.spec returns shared-slice-read-t7 at-requires returns-2)

@@ -1,6 +1,6 @@
 -- `lowest_free_record` looks at one record after the other. The invariant: none of the first k is free. Assumes nothing.
 use mathlib.Core.Path.{_≡_}
-use Prim.Native.Nat.{_-_, _≤_}
+use Prim.Native.Nat.{ℕ, _-_, _≤_}
 use native.Mathlib.Omega.{arith}
 use borrow.Author.Needs.{needs}
 use Rattle.rules.specs.Limits.{recordCount}
@@ -19,6 +19,9 @@ abbrev μ-loop : tie.MeasureT-loop
 
 loop-holds : tie.Need-loop-holds Inv-loop μ-loop
 loop-holds c = (omega arith, λ st z e j h. absurd (omega arith))
+
+cast-loop : tie.Need-cast-loop Inv-loop μ-loop
+cast-loop c = search needs
 
 status-of-requires : tie.Need-status-of-requires Inv-loop μ-loop
 status-of-requires c κs = search needs
@@ -51,6 +54,9 @@ loop-again c =
           (in-use (recordAt st k) (at-status .status-of .ensures st z e) (not-free (c .match .keys2))),
     )
 
+cast-t7 : tie.Need-cast-t7 Inv-loop μ-loop
+cast-t7 c = search needs
+
 returns-2 : tie.Need-returns-2 Inv-loop μ-loop
 returns-2 c st z e = none-free st z (λ j h. c .before .loop .inv .1 st z e j (omega arith))
 
@@ -61,10 +67,12 @@ lowest-free-record-spec =
     Inv-loop
     μ-loop
     loop-holds
+    cast-loop
     status-of-requires
     enum-told
     returns
     add-k
     loop-less
     loop-again
+    cast-t7
     returns-2)

@@ -12,7 +12,7 @@ shr-result c = search needs
 
 -- src/slots.rt:57:1
 returns : tie.Need-returns
-returns c = in-set-is (c .args .m) (c .args .c)
+returns c = in-set-is (c .args .m) (c .args .c .0)
 
 pub in-set-spec : {M : Type 1} → statement M
 in-set-spec = tie.close (tie.spec shr-result returns)

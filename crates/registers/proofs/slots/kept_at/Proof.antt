@@ -17,13 +17,13 @@ in-set-requires c κs = search needs
 returns : tie.Need-returns
 returns c o e =
     let a = c .before .before .args in
-    kept-byte (inSet (a .m) (a .c)) o e (sym (c .before .in-set .ensures) ∙ c .if1 .taken)
+    kept-byte (inSet (a .m) (a .c .0)) o e (sym (c .before .in-set .ensures) ∙ c .if1 .taken)
 
 -- src/slots.rt:65:1
 returns-2 : tie.Need-returns-2
 returns-2 c o e =
     let a = c .before .before .args in
-    dropped-byte (inSet (a .m) (a .c)) o (sym (c .before .in-set .ensures) ∙ c .if1 .left)
+    dropped-byte (inSet (a .m) (a .c .0)) o (sym (c .before .in-set .ensures) ∙ c .if1 .left)
 
 pub kept-at-spec : {M : Type 1} → statement M
 kept-at-spec = tie.close (tie.spec in-set-requires returns returns-2)

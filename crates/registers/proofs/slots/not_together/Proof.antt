@@ -50,10 +50,12 @@ loop-again c =
     let at-low = c .before in
     let at-loop = at-low .before .before in
     let p = at-loop .loop in
-    let a = at-loop .before .args in
-    (omega arith, λ l n e.
-    let low = at-low .low-differs .ensures (getD l (p .k) none) (slot-byte l (p .k) (omega arith) e) in
-    passed together-search none (a .m, a .n) (p .a, p .b) l (p .k) (p .inv .1 l n e) (omega arith) (sym low ∙ c .if1 .left))
+    let a = at-loop .before .args in (
+      omega arith,
+      λ l n e.
+          let low = at-low .low-differs .ensures (getD l (p .k) none) (slot-byte l (p .k) (omega arith) e) in
+          passed together-search none (a .m, a .n) (p .a, p .b) l (p .k) (p .inv .1 l n e) (omega arith) (sym low ∙ c .if1 .left),
+    )
 
 returns-2 : tie.Need-returns-2 Inv-loop μ-loop
 returns-2 c l n e =

@@ -43,9 +43,11 @@ loop-again c =
     let at-both = c .before in
     let at-loop = at-both .before .before in
     let p = at-loop .loop in
-    let a = at-loop .before .args in
-    (omega arith, λ l n.
-    passed overlap-search none (a .m, a .n) (p .a, p .b) l (p .k) (p .inv .1 l n) (omega arith) (sym (at-both .both-low .ensures) ∙ c .if1 .left))
+    let a = at-loop .before .args in (
+      omega arith,
+      λ l n.
+          passed overlap-search none (a .m, a .n) (p .a, p .b) l (p .k) (p .inv .1 l n) (omega arith) (sym (at-both .both-low .ensures) ∙ c .if1 .left),
+    )
 
 returns-2 : tie.Need-returns-2 Inv-loop μ-loop
 returns-2 c l n =
