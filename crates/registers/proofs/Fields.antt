@@ -1,29 +1,28 @@
 -- Registers by value field by field: which registers of `rules` they stand for, both ways. Assumes nothing.
 use mathlib.Core.Path.{_≡_, refl, ap}
-use mathlib.Core.Option.{none}
-use mathlib.Core.List.{List, map}
+use mathlib.Core.List.{List}
 use Prim.Native.Nat.{ℕ}
 use lib.ListN.{length}
 use lib.IntN.{pos}
-use Rattle.rules.specs.Limits.{slotCount, stackDepth, environmentDepth}
+use Rattle.rules.specs.Limits.{stackDepth, environmentDepth}
 use Rattle.rules.specs.Bytes.{pad}
 use Rattle.rules.specs.State.{Value, Registers as Process, registers}
 use Rattle.rules.specs.Slots.{Slots}
-use Rattle.rules.specs.Layout.{optional}
 use Rattle.registers.specs.declared.Registers.{Registers}
-use Rattle.registers.specs.Registers.{registersOf, movedTo, withSlots}
+use Rattle.registers.specs.Registers.{slotBytes, registersOf, movedTo, withSlots}
 
-pub record Holds (r : Registers) (g : Process) : Type 0 where
+-- the registers r of the code stand for those of the process g
+pub record StandsFor (r : Registers) (g : Process) : Type 0 where
   pub place-is : r .place ≡ g .place
   pub stack-count-is : r .«stack_count» ≡ length (g .stack)
   pub environment-count-is : r .«environment_count» ≡ length (g .environment)
-  pub slots-are : r .slots ≡ map optional (pad slotCount none (g .slots))
+  pub slots-are : r .slots ≡ slotBytes (g .slots)
   pub stack-is : r .stack ≡ pad stackDepth (pos 0) (g .stack)
   pub environment-is : r .environment ≡ pad environmentDepth (pos 0) (g .environment)
 
-pub holds : {r : Registers} (g : Process) → r ≡ registersOf g → Holds r g
+pub by-fields : {r : Registers} (g : Process) → r ≡ registersOf g → StandsFor r g
 unfolding registersOf
-holds g e = record {
+by-fields g e = record {
   place-is = ap (λ (r : Registers). r .place) e;
   stack-count-is = ap (λ (r : Registers). r .«stack_count») e;
   environment-count-is = ap (λ (r : Registers). r .«environment_count») e;
@@ -32,9 +31,9 @@ holds g e = record {
   environment-is = ap (λ (r : Registers). r .environment) e;
 }
 
-pub held : {r : Registers} (g : Process) → Holds r g → r ≡ registersOf g
+pub from-fields : {r : Registers} (g : Process) → StandsFor r g → r ≡ registersOf g
 unfolding registersOf
-held g h = λ i. record {
+from-fields g h = λ i. record {
   place = h .place-is i;
   «stack_count» = h .stack-count-is i;
   «environment_count» = h .environment-count-is i;
@@ -45,8 +44,8 @@ held g h = λ i. record {
 
 -- ---- one part put anew
 
-module _ {r : Registers} (g : Process) (h : Holds r g) where
-  pub with-place : (p : ℕ) → Holds
+module _ {r : Registers} (g : Process) (h : StandsFor r g) where
+  pub with-place : (p : ℕ) → StandsFor
       (record {
         place = p;
         «stack_count» = r .«stack_count»;
@@ -65,7 +64,7 @@ module _ {r : Registers} (g : Process) (h : Holds r g) where
     environment-is = h .environment-is;
   }
 
-  pub with-stack : (l : List Value) {n : ℕ} {s : List Value} → n ≡ length l → s ≡ pad stackDepth (pos 0) l → Holds
+  pub with-stack : (l : List Value) {n : ℕ} {s : List Value} → n ≡ length l → s ≡ pad stackDepth (pos 0) l → StandsFor
       (record {
         place = r .place;
         «stack_count» = n;
@@ -84,7 +83,7 @@ module _ {r : Registers} (g : Process) (h : Holds r g) where
     environment-is = h .environment-is;
   }
 
-  pub with-environment : (l : List Value) {n : ℕ} {s : List Value} → n ≡ length l → s ≡ pad environmentDepth (pos 0) l → Holds
+  pub with-environment : (l : List Value) {n : ℕ} {s : List Value} → n ≡ length l → s ≡ pad environmentDepth (pos 0) l → StandsFor
       (record {
         place = r .place;
         «stack_count» = r .«stack_count»;
@@ -103,7 +102,7 @@ module _ {r : Registers} (g : Process) (h : Holds r g) where
     environment-is = s;
   }
 
-  pub with-slots : (l : Slots) {s : List ℕ} → s ≡ map optional (pad slotCount none l) → Holds
+  pub with-slots : (l : Slots) {s : List ℕ} → s ≡ slotBytes l → StandsFor
       (record {
         place = r .place;
         «stack_count» = r .«stack_count»;

@@ -1,24 +1,22 @@
--- A record's bytes, field by field: where each number stands and what is read there. `record-read` carries a read of the state memory to the
--- record's own bytes, and the laws above it read these. Assumes nothing.
-use mathlib.Core.Path.{_≡_, refl, sym, ap, _∙_, subst}
+-- A record's bytes, field by field: where each number stands and what is read there. `record-read` carries a read of the state memory to
+-- the record's own bytes, and the laws above it read these. Assumes nothing.
+use mathlib.Core.Path.{_≡_, refl, sym, ap, _∙_}
 use mathlib.Core.Logic.{_≢_}
-use mathlib.Core.Option.{Option, none, some}
-use mathlib.Core.List.{List, [], _∷_, _++_, map, append-nil, append-assoc}
-use Prim.Native.Nat.{ℕ, zero, suc, _+_, _*_, _^_, _≤_, _<_}
+use mathlib.Core.List.{List, [], _∷_, _++_, append-nil, append-assoc}
+use Prim.Native.Nat.{ℕ, _+_, _*_, _^_, _≤_, _<_}
 use native.Mathlib.Omega.{arith}
-use lib.ListN.{length, getD, take, drop, length-append, length-map, length-take, length-drop, List·getD-append}
+use lib.ListN.{length, getD, take, drop, length-append, length-drop, List·getD-append}
 use lib.Seq.{getD-take, getD-drop, getD-append-add, ext-getD, length-take-le}
 use lib.IntN.{pos}
 use mir.Syntax.{w32}
 use mir.Val.{toZ, ofZ, SFits}
 use mir.Facts.{toZ-ofZ, fits-ofZ}
-use Rattle.rules.specs.Limits.{recordCount, slotCount, stackDepth, environmentDepth, placeCount}
-use Rattle.rules.specs.Bytes.{bytesOf, numberAt, flat, pad, table}
+use Rattle.rules.specs.Limits.{recordCount, slotCount, stackDepth, environmentDepth}
+use Rattle.rules.specs.Bytes.{bytesOf, numberAt, flat, pad}
 use Rattle.rules.specs.State.{State, Value, Registers as Process, RecordState, free-record, running, waiting, recordAt}
-use Rattle.rules.specs.Slots.{Slots}
 use Rattle.rules.specs.Sound.{ValueWithin, RegistersWithin, RecordWithin}
-use Rattle.rules.specs.Layout.{valueSize, recordSize, recordsAt, optional, valueBytes, stateSize, registersBytes, noRegisters, recordBytes, layout}
-use Rattle.words.proofs.Numbers.{length-bytes, number-skip, number-in, number-bytes}
+use Rattle.rules.specs.Layout.{valueSize, recordSize, recordsAt, valueBytes, stateSize, registersBytes, noRegisters, recordBytes, layout}
+use Rattle.words.proofs.Numbers.{number-skip, number-in, number-bytes}
 use Rattle.words.proofs.Pads.{length-pad, pad-all}
 use Rattle.words.proofs.Pieces.{length-flat, cut-flat}
 use Rattle.words.proofs.Tables.{table-is}
@@ -160,7 +158,8 @@ module _ (status : ℕ) (g : Process) where
       ∙ List·getD-append (slotBytes (g .slots)) (stackBytes g ++ environmentBytes g) 0 j (omega arith)
 
   pub stack-read : RegistersWithin g → (j : ℕ) → j < stackDepth
-      → toZ w32 (numberAt valueSize (status ∷ registersBytes g) (stackFrom + valueSize * j)) ≡ getD (pad stackDepth (pos 0) (g .stack)) j (pos 0)
+      → toZ w32 (numberAt valueSize (status ∷ registersBytes g) (stackFrom + valueSize * j))
+      ≡ getD (pad stackDepth (pos 0) (g .stack)) j (pos 0)
   stack-read w j h =
       let cells = pad stackDepth (pos 0) (g .stack) in
       let long = length-slots (g .slots) in

@@ -1,10 +1,10 @@
--- Slots in their bytes, 0 for an empty slot and an end's number and one for a held one: what is read in a slot, a slot put anew, the slots of
--- a set, and the tests on one slot that the code makes on bytes. Assumes nothing.
+-- Slots in their bytes, 0 for an empty slot and an end's number and one for a held one: what is read in a slot, a slot put anew, the slots
+-- of a set, and the tests on one slot that the code makes on bytes. Assumes nothing.
 use mathlib.Core.Path.{_≡_, refl, sym, ap, _∙_}
-use mathlib.Core.Bool.{Bool, true, false, not, xor, _||_}
+use mathlib.Core.Bool.{Bool, true, false, not, xor}
 use mathlib.Core.Option.{Option, none, some}
 use mathlib.Core.List.{List, [], _∷_, map}
-use Prim.Native.Nat.{ℕ, zero, suc, _+_, _-_, _/_, _%_, _^_, _≤_, _<_}
+use Prim.Native.Nat.{ℕ, zero, suc, _-_, _/_, _%_, _^_, _≤_, _<_}
 use native.Mathlib.Nat.{div-one, div-div-eq-div-mul, pow-succ'}
 use native.Mathlib.Omega.{arith}
 use lib.ListN.{length, getD, set, length-set, length-map, List·getD-map, List·getD-eq-default}
@@ -13,7 +13,7 @@ use lib.Dec.{eqb}
 use borrow.Author.Tests.{ne-eqb}
 use Rattle.rules.specs.Limits.{slotCount}
 use Rattle.rules.specs.Bytes.{pad}
-use Rattle.rules.specs.Slots.{Slots, isHeld, lowBit, inSet, keptIf, keptBy}
+use Rattle.rules.specs.Slots.{Slots, isHeld, inSet, keptIf, keptBy}
 use Rattle.rules.specs.Layout.{optional}
 use Rattle.words.proofs.Pads.{length-pad, getD-pad, pad-same}
 use Rattle.registers.specs.Registers.{slotBytes}

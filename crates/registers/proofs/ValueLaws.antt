@@ -1,6 +1,6 @@
--- Arrays of values: what a shift by one makes of a padded list. A signed number that is moved is read back from its bits, so each law asks that
--- the values fit. Assumes nothing.
-use mathlib.Core.Path.{_≡_, refl, sym, ap, _∙_, subst}
+-- Arrays of values: what a shift by one makes of a padded list, their counts, and the values passed to a callee. A signed number that is
+-- moved is read back from its bits, so the laws of shifts ask that the values fit. Assumes nothing.
+use mathlib.Core.Path.{_≡_, refl, sym, ap, _∙_}
 use mathlib.Core.List.{List, [], _∷_, _++_, reverse, reverse-append}
 use Prim.Native.Nat.{ℕ, zero, suc, _+_, _-_, _≤_, _<_}
 use native.Mathlib.Nat.{le-of-suc-le-suc}
@@ -9,7 +9,7 @@ use native.Mathlib.Omega.{arith}
 use lib.ListN.{length, getD, take, drop, length-drop}
 use lib.Seq.{getD-drop, drop-drop, take-suc}
 use lib.IntN.{ℤ, pos}
-use mir.Syntax.{Width, w32}
+use mir.Syntax.{w32}
 use mir.Val.{Val, toZ, ofZ, SFits}
 use mir.Facts.{toZ-ofZ}
 use denote.Signed.{SInt}
@@ -64,7 +64,9 @@ module _ (n : ℕ) (a l : List Value) (fits : (i : ℕ) → SFits w32 (getD a i 
   -- v in front of the first n
   pub front-law : (v : Value) → SFits w32 v → moved v ∷ table n (λ (i : ℕ). moved (getD a i (pos 0))) ≡ pad (suc n) (pos 0) (v ∷ l)
   unfolding pad
-  front-law v f = λ j. toZ-ofZ {w = w32} {z = v} f j ∷ table-pad n (λ (i : ℕ). moved (getD a i (pos 0))) l (λ i h. read-pad i (omega arith)) j
+  front-law v f =
+      let behind = table-pad n (λ (i : ℕ). moved (getD a i (pos 0))) l (λ i h. read-pad i (omega arith)) in
+      λ j. toZ-ofZ {w = w32} {z = v} f j ∷ behind j
 
   -- those behind the first, and a zero
   pub behind-law : length l ≤ suc n → table n (λ (i : ℕ). moved (getD a (suc i) (pos 0))) ++ (pos 0 ∷ []) ≡ pad (suc n) (pos 0) (drop 1 l)
@@ -76,7 +78,8 @@ module _ (n : ℕ) (a l : List Value) (fits : (i : ℕ) → SFits w32 (getD a i 
       ∙ pad-more n (drop 1 l) rest
 
 -- the value in cell i
-pub value-is : (i : ℕ) {a : List Value} (l : List Value) → i < stackDepth → a ≡ pad stackDepth (pos 0) l → getD a i (pos 0) ≡ getD l i (pos 0)
+pub value-is : (i : ℕ) {a : List Value} (l : List Value) → i < stackDepth → a ≡ pad stackDepth (pos 0) l
+    → getD a i (pos 0) ≡ getD l i (pos 0)
 value-is i l h e = ap (λ (x : List Value). getD x i (pos 0)) e ∙ getD-pad stackDepth (pos 0) l i h
 
 -- another value in front
@@ -94,9 +97,6 @@ one-less l e = omega (arith, length-drop 1 l)
 -- the two in front, for one
 pub two-for-one : {n : ℕ} (v : Value) (l : List Value) → 1 < n → n ≡ length l → n - 1 ≡ length (v ∷ drop 2 l)
 two-for-one v l h e = omega (arith, length-drop 2 l)
-
-pub rest-fits : (l : List Value) → length l ≤ stackDepth → length (drop 1 l) ≤ stackDepth
-rest-fits l h = omega (arith, length-drop 1 l)
 
 -- ---- n values passed to a callee
 

@@ -14,9 +14,10 @@ use Rattle.keeping.proofs.LayoutLaws.{Sized}
 use Rattle.memory.proofs.States.{record-written}
 use Rattle.registers.specs.declared.Registers.{Registers}
 use Rattle.registers.specs.Registers.{slotBytes, registersIn}
-use Rattle.registers.proofs.Fields.{Holds}
+use Rattle.registers.proofs.Fields.{StandsFor}
 use Rattle.registers.proofs.SlotLaws.{length-slots}
-use Rattle.registers.proofs.RecordLaws.{slotsFrom, stackFrom, environmentFrom, numbers, stackBytes, environmentBytes, length-stack, statusByte, record-bytes}
+use Rattle.registers.proofs.RecordLaws.{slotsFrom, stackFrom, environmentFrom, numbers, stackBytes, environmentBytes}
+use Rattle.registers.proofs.RecordLaws.{length-stack, statusByte, record-bytes}
 
 -- status, place and counts
 pub numbers-written : (m : List ℕ) (at status place stack environment : ℕ) {m₁ m₂ m₃ m₄ : List ℕ}
@@ -47,7 +48,7 @@ module _ (m : List ℕ) (at status : ℕ) (g : Process) where
       ∙ put-append m₂ (at + stackFrom) (stackBytes g) (environmentBytes g)
       ∙ ap (λ (k : ℕ). putAt (putAt m₂ (at + stackFrom) (stackBytes g)) k (environmentBytes g)) environment
 
-  pub registers-written : {x : Registers} {m₁ m₂ m₃ m₄ : List ℕ} → Holds x g
+  pub registers-written : {x : Registers} {m₁ m₂ m₃ m₄ : List ℕ} → StandsFor x g
       → m₁ ≡ putAt m at (status ∷ (bytesOf 2 (x .place) ++ (x .«stack_count» ∷ x .«environment_count» ∷ [])))
       → m₂ ≡ putAt m₁ (at + slotsFrom) (x .slots) → m₃ ≡ putAt m₂ (at + stackFrom) (flat valueBytes (x .stack))
       → m₄ ≡ putAt m₃ (at + environmentFrom) (flat valueBytes (x .environment)) → m₄ ≡ putAt m at (status ∷ registersBytes g)

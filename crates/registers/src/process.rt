@@ -1,4 +1,5 @@
-// Changes of the registers.
+// The registers of one process as a whole: each method takes them by value and hands them back. A contract says of every process g that the
+// registers stand for what g they stand for afterwards, in the words of `rules`; a count with no room is for the caller to refuse before.
 ghost use mathlib.Core.Path.{_≡_};
 ghost use mathlib.Core.Option.{Option};
 ghost use mathlib.Core.List.{[]};

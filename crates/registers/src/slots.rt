@@ -1,4 +1,4 @@
-// The eight slots of a record in their bytes, and sets of slots, bit i for slot i.
+// The slots of a record in their bytes, 0 for an empty slot and an end's number and one for a held one, and sets of slots, bit i for slot i.
 ghost use mathlib.Core.Path.{_≡_};
 ghost use mathlib.Core.Bool.{_||_, _&&_, xor};
 ghost use mathlib.Core.Option.{Option, none};

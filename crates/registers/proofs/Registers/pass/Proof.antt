@@ -3,13 +3,13 @@ use mathlib.Core.Path.{_≡_, refl, _∙_, ap}
 use mathlib.Core.List.{[]}
 use Prim.Native.Nat.{ℕ, _+_, _-_, _≤_}
 use native.Mathlib.Omega.{arith}
-use lib.ListN.{length, drop, length-drop}
+use lib.ListN.{length}
 use borrow.Author.Needs.{needs}
 use Rattle.rules.specs.Limits.{stackDepth}
 use Rattle.rules.specs.Bytes.{pad}
 use Rattle.rules.specs.State.{Registers as Process, registers}
 use Rattle.registers.specs.Registers.{registersOf, passed}
-use Rattle.registers.proofs.Fields.{holds, held, with-environment}
+use Rattle.registers.proofs.Fields.{by-fields, from-fields, with-environment}
 use Rattle.registers.proofs.ValueLaws.{dropped-fits, stored-passed}
 use borrow.Author.Needs.{needs}
 use Rattle.registers.proofs.Registers.pass.Statement.{statement}
@@ -44,7 +44,7 @@ loop-again c =
       omega arith,
       omega arith,
       λ g n e.
-          let count = holds _ e .stack-count-is in
+          let count = by-fields _ e .stack-count-is in
           c .store .ensures .1 (passed g (p .k)) (dropped-fits (p .k) (g .stack) n) (p .inv .3 g n e)
           ∙ ap registersOf (stored-passed g (p .k) (omega arith)),
     )
@@ -54,7 +54,7 @@ unfolding pad
 returns c g n e =
     let p = c .before .loop in
     let all : p .k ≡ c .before .before .before .args .n = omega arith in
-    p .inv .3 g n (held _ (with-environment g (holds g e) [] refl refl)) ∙ ap (λ (j : ℕ). registersOf (passed g j)) all
+    p .inv .3 g n (from-fields _ (with-environment g (by-fields g e) [] refl refl)) ∙ ap (λ (j : ℕ). registersOf (passed g j)) all
 
 pub pass-spec : {M : Type 1} → statement M
 pass-spec =

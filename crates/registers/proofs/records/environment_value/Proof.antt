@@ -17,32 +17,22 @@ use Rattle.registers.specs.Registers.{registersIn}
 use Rattle.registers.proofs.RecordLaws.{statusByte, environmentFrom, registers-within, record-read, environment-read}
 use Rattle.registers.proofs.records.environment_value.Statement.{statement}
 use Rattle.registers.proofs.records.environment_value.Tie as tie
-use Rattle.registers.proofs.records.environment_value.Reads as reads
-use Rattle.registers.proofs.records.environment_value.Lts as lts
-use Rattle.registers.proofs.records.start_of.Reads as start-of-reads
-use Rattle.words.proofs.get_signed.Reads as get-signed-reads
 
--- src/records.rt:78:26
 start-of-requires : tie.Need-start-of-requires
 start-of-requires c κs = search needs
 
--- src/records.rt:78:26
 add-get-signed : tie.Need-add-get-signed
 add-get-signed c = search needs
 
--- src/records.rt:78:45
 mul-get-signed : tie.Need-mul-get-signed
 mul-get-signed c = search needs
 
--- src/records.rt:78:26
 add-get-signed-2 : tie.Need-add-get-signed-2
 add-get-signed-2 c = search needs
 
--- src/records.rt:78:5
 get-signed-requires : tie.Need-get-signed-requires
 get-signed-requires c κs = search needs
 
--- src/records.rt:72:1
 returns : tie.Need-returns
 returns c st z w e =
     let at-start-of = c .before in
@@ -54,7 +44,8 @@ returns c st z w e =
     let g = registersIn x in
     let p = at-start-of .start-of .ensures in
     let fits : environmentFrom + valueSize * n + valueSize ≤ recordSize = omega arith in
-    let together : at-start-of .start-of .result + environmentFrom + valueSize * n ≡ at-start-of .start-of .result + (environmentFrom + valueSize * n) = omega arith in
+    let at = at-start-of .start-of .result in
+    let together : at + environmentFrom + valueSize * n ≡ at + (environmentFrom + valueSize * n) = omega arith in
     toZ-ofZ (search needs)
     ∙ c .get-signed .ensures
     ∙ ap (λ (k : ℕ). toZ w32 (numberAt valueSize (s .args .m .now) k)) together

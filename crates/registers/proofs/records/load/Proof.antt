@@ -5,71 +5,52 @@ use borrow.Author.Needs.{needs}
 use Rattle.rules.specs.State.{recordAt}
 use Rattle.rules.specs.Numbers.{recordNumber}
 use Rattle.registers.specs.Registers.{registersIn}
-use Rattle.registers.proofs.Fields.{held}
-use Rattle.registers.proofs.RecordLaws.{statusByte, stackFrom, environmentFrom, registers-within, record-read, byte-read, values-read, slots-read, place-read, stack-count-read, environment-count-read, stack-read, environment-read}
+use Rattle.registers.proofs.Fields.{from-fields}
+use Rattle.registers.proofs.RecordLaws.{statusByte, stackFrom, environmentFrom, registers-within}
+use Rattle.registers.proofs.RecordLaws.{record-read, byte-read, values-read, slots-read}
+use Rattle.registers.proofs.RecordLaws.{place-read, stack-count-read, environment-count-read, stack-read, environment-read}
 use Rattle.registers.proofs.records.load.Statement.{statement}
 use Rattle.registers.proofs.records.load.Tie as tie
-use Rattle.registers.proofs.records.load.Reads as reads
-use Rattle.registers.proofs.records.load.Lts as lts
-use Rattle.registers.proofs.records.start_of.Reads as start-of-reads
-use Rattle.registers.proofs.slots.read.Reads as slots-read-reads
-use Rattle.registers.proofs.values.read.Reads as values-read-reads
-use Rattle.words.proofs.get16.Reads as get16-reads
-use Rattle.words.proofs.get8.Reads as get8-reads
 
--- src/records.rt:54:9
 start-of-requires : tie.Need-start-of-requires
 start-of-requires c κs = search needs
 
--- src/records.rt:55:33
 add-get16 : tie.Need-add-get16
 add-get16 c = search needs
 
--- src/records.rt:55:9
 get16-requires : tie.Need-get16-requires
 get16-requires c κs = search needs
 
--- src/records.rt:56:38
 add-get8 : tie.Need-add-get8
 add-get8 c = search needs
 
--- src/records.rt:56:9
 get8-requires : tie.Need-get8-requires
 get8-requires c κs = search needs
 
--- src/records.rt:57:44
 add-get8-2 : tie.Need-add-get8-2
 add-get8-2 c = search needs
 
--- src/records.rt:57:9
 get8-requires-2 : tie.Need-get8-requires-2
 get8-requires-2 c κs = search needs
 
--- src/records.rt:58:32
 add-read : tie.Need-add-read
 add-read c = search needs
 
--- src/records.rt:58:9
 read-requires : tie.Need-read-requires
 read-requires c κs = search needs
 
--- src/records.rt:59:33
 add-read-2 : tie.Need-add-read-2
 add-read-2 c = search needs
 
--- src/records.rt:59:9
 read-requires-2 : tie.Need-read-requires-2
 read-requires-2 c κs = search needs
 
--- src/records.rt:60:39
 add-read-3 : tie.Need-add-read-3
 add-read-3 c = search needs
 
--- src/records.rt:60:9
 read-requires-3 : tie.Need-read-requires-3
 read-requires-3 c κs = search needs
 
--- src/records.rt:49:1
 returns : tie.Need-returns
 returns c st z w e =
     let at-stack = c .before in
@@ -84,7 +65,7 @@ returns c st z w e =
     let within = registers-within x w in
     let p = at-start-of .start-of .ensures in
     let h = s .pre .1 in
-    held g
+    from-fields g
     (record {
       place-is = at-get16 .get16 .ensures ∙ record-read st z r h e p 2 1 (omega arith) ∙ place-read (statusByte x) g within;
       stack-count-is =

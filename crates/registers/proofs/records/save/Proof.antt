@@ -4,55 +4,39 @@ use mathlib.Core.List.{_∷_}
 use Prim.Native.Nat.{ℕ}
 use Rattle.rules.specs.Layout.{registersBytes}
 use Rattle.words.specs.Parts.{putAt}
-use Rattle.registers.proofs.Fields.{holds}
+use Rattle.registers.proofs.Fields.{by-fields}
 use Rattle.registers.proofs.WriteLaws.{registers-written}
 use borrow.Author.Needs.{needs}
 use Rattle.registers.proofs.records.save.Statement.{statement}
 use Rattle.registers.proofs.records.save.Tie as tie
-use Rattle.registers.proofs.records.save.Reads as reads
-use Rattle.registers.proofs.records.save.Lts as lts
-use Rattle.registers.proofs.records.start_of.Reads as start-of-reads
-use Rattle.registers.proofs.records.write_numbers.Reads as write-numbers-reads
-use Rattle.registers.proofs.slots.write.Reads as slots-write-reads
-use Rattle.registers.proofs.values.write.Reads as values-write-reads
 
--- src/records.rt:99:9
 start-of-requires : tie.Need-start-of-requires
 start-of-requires c κs = search needs
 
--- src/records.rt:100:5
 write-numbers-requires : tie.Need-write-numbers-requires
 write-numbers-requires c κs = search needs
 
--- src/records.rt:102:21
 add-write : tie.Need-add-write
 add-write c = search needs
 
--- src/records.rt:102:5
 write-requires : tie.Need-write-requires
 write-requires c κs = search needs
 
--- src/records.rt:104:22
 add-write-2 : tie.Need-add-write-2
 add-write-2 c = search needs
 
--- src/records.rt:104:5
 write-requires-2 : tie.Need-write-requires-2
 write-requires-2 c κs = search needs
 
--- src/records.rt:106:22
 add-write-3 : tie.Need-add-write-3
 add-write-3 c = search needs
 
--- src/records.rt:106:5
 write-requires-3 : tie.Need-write-requires-3
 write-requires-3 c κs = search needs
 
--- src/records.rt:94:1
 same-length : tie.Need-same-length
 same-length c = search needs
 
--- src/records.rt:94:1
 returns : tie.Need-returns
 returns c g e =
     let at-write3 = c .before .before in
@@ -62,7 +46,7 @@ returns c g e =
     let at-start-of = at-numbers .before .before in
     let s = at-start-of .before .before in
     let m = s .args .m .now in
-    registers-written m (at-start-of .start-of .result) (s .args .status) g (holds g e) (at-numbers .write-numbers .ensures)
+    registers-written m (at-start-of .start-of .result) (s .args .status) g (by-fields g e) (at-numbers .write-numbers .ensures)
     (at-write .write .ensures) (at-write2 .write2 .ensures) (at-write3 .write3 .ensures)
     ∙ ap (λ (k : ℕ). putAt m k (s .args .status ∷ registersBytes g)) (at-start-of .start-of .ensures)
 
