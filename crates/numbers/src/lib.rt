@@ -5,7 +5,7 @@ ghost use Rattle.rules.specs.Limits.{recordCount};
 ghost use Rattle.rules.specs.Numbers.{recordNumber};
 ghost use Rattle.rules.specs.Instruction.{cst as cstOf, access as accessOf, store as storeOf};
 ghost use Rattle.keeping.specs.Demand3.{SoundMemory};
-ghost use Rattle.numbers.specs.Stepped.{Stepped};
+ghost use Rattle.stepping.specs.Stepped.{Stepped};
 use rules::FEW_VALUES;
 use rules::NO_ENVIRONMENT_PLACE;
 use rules::Record;

@@ -15,7 +15,7 @@ use Rattle.rules.specs.Layout.{view}
 use Rattle.rules.specs.Sound.{ValueWithin}
 use Rattle.keeping.proofs.Memories.{memory-length}
 use Rattle.registers.specs.Registers.{registersOf, registersIn, pushed}
-use Rattle.numbers.proofs.Steps.{refused-step, done-step, sized, registers-ok, held-is, held-small, stack-count, environment-count}
+use Rattle.stepping.proofs.Steps.{refused-step, done-step, sized, registers-ok, held-is, held-small, stack-count, environment-count}
 use Rattle.numbers.proofs.Cases.{access-full, access-none, access-done}
 use Rattle.numbers.proofs.access.Statement.{statement}
 use Rattle.numbers.proofs.access.Tie as tie

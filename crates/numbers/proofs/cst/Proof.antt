@@ -11,7 +11,7 @@ use Rattle.rules.specs.Limits.{stackDepth}
 use Rattle.rules.specs.Layout.{view}
 use Rattle.keeping.proofs.Memories.{memory-length}
 use Rattle.registers.specs.Registers.{registersOf, pushed}
-use Rattle.numbers.proofs.Steps.{refused-step, done-step, sized, held-is, stack-count}
+use Rattle.stepping.proofs.Steps.{refused-step, done-step, sized, held-is, stack-count}
 use Rattle.numbers.proofs.Cases.{cst-full, cst-done}
 use Rattle.numbers.proofs.cst.Statement.{statement}
 use Rattle.numbers.proofs.cst.Tie as tie

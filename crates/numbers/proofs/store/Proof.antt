@@ -10,7 +10,7 @@ use Rattle.rules.specs.State.{Registers as Process, running, recordAt}
 use Rattle.rules.specs.Layout.{view}
 use Rattle.keeping.proofs.Memories.{memory-length}
 use Rattle.registers.specs.Registers.{registersOf, stored}
-use Rattle.numbers.proofs.Steps.{refused-step, done-step, sized, registers-ok, held-is, stack-count, environment-count}
+use Rattle.stepping.proofs.Steps.{refused-step, done-step, sized, registers-ok, held-is, stack-count, environment-count}
 use Rattle.numbers.proofs.Cases.{store-few, store-full, store-done}
 use Rattle.numbers.proofs.store.Statement.{statement}
 use Rattle.numbers.proofs.store.Tie as tie
