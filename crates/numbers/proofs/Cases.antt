@@ -4,13 +4,16 @@ use mathlib.Core.Bool.{true, false}
 use mathlib.Core.List.{_∷_}
 use Prim.Native.Nat.{ℕ}
 use lib.ListN.{getD, drop}
-use lib.IntN.{pos}
+use lib.IntN.{pos, _+ℤ_, _*ℤ_}
+use lib.Signed.{leZ}
 use Rattle.rules.specs.State.{State, Value, Registers, registers, running, setRecord}
 use Rattle.rules.specs.Refusal.{refused, done, unless}
-use Rattle.rules.specs.Instruction.{cst, access, store}
-use Rattle.rules.specs.Causes.{top, fewer, stackFull, environmentFull, noEnvironmentPlace, ownCauses, sharedCauses}
-use Rattle.rules.specs.RecordStep.{after}
+use Rattle.rules.specs.Instruction.{cst, access, store, add, mul, leq}
+use Rattle.rules.specs.Causes.{top, below, fewer, outside, stackFull, environmentFull, noEnvironmentPlace, ownCauses, sharedCauses}
+use Rattle.rules.specs.RecordStep.{after, yesOrNo}
 use Rattle.rules.specs.Ask.{answerTo}
+use Rattle.registers.specs.Registers.{combined, movedTo}
+use Rattle.numbers.specs.Checked.{checked}
 
 module _ (st : State) (r next : ℕ) (g : Registers) where
   pub cst-full : (v : Value) → stackFull g ≡ true → answerTo st r next g (cst v) ≡ refused 6
@@ -48,3 +51,38 @@ module _ (st : State) (r next : ℕ) (g : Registers) where
       → answerTo st r next g store ≡ done (setRecord st r (running (registers next (drop 1 (g .stack)) (top g ∷ g .environment) (g .slots))))
   unfolding answerTo ownCauses sharedCauses unless after
   store-done f f′ = rw (f, f′)
+
+  -- ---- two values become one
+
+  pub outside-refused : (v : Value) → outside v ≡ true → checked st r next g v ≡ refused 9
+  unfolding unless
+  outside-refused v t = rw t
+
+  pub inside-done : (v : Value) → outside v ≡ false → checked st r next g v ≡ done (setRecord st r (running (movedTo (combined g v) next)))
+  unfolding unless
+  inside-done v f = rw f
+
+  pub add-few : fewer 2 g ≡ true → answerTo st r next g add ≡ refused 5
+  unfolding answerTo ownCauses sharedCauses unless
+  add-few t = rw t
+
+  pub add-checked : fewer 2 g ≡ false → checked st r next g (top g +ℤ below g) ≡ answerTo st r next g add
+  unfolding answerTo ownCauses sharedCauses unless after
+  add-checked f = rw f
+
+  pub mul-few : fewer 2 g ≡ true → answerTo st r next g mul ≡ refused 5
+  unfolding answerTo ownCauses sharedCauses unless
+  mul-few t = rw t
+
+  pub mul-checked : fewer 2 g ≡ false → checked st r next g (top g *ℤ below g) ≡ answerTo st r next g mul
+  unfolding answerTo ownCauses sharedCauses unless after
+  mul-checked f = rw f
+
+  pub leq-few : fewer 2 g ≡ true → answerTo st r next g leq ≡ refused 5
+  unfolding answerTo ownCauses sharedCauses unless
+  leq-few t = rw t
+
+  pub leq-done : fewer 2 g ≡ false
+      → answerTo st r next g leq ≡ done (setRecord st r (running (movedTo (combined g (yesOrNo (leZ (top g) (below g)))) next)))
+  unfolding answerTo ownCauses sharedCauses unless after
+  leq-done f = rw f

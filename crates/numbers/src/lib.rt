@@ -1,4 +1,4 @@
-// Instructions on numbers: cst, access, store. Each tests its refusals in the order of document 01's numbers, then loads the
+// Instructions on numbers: cst, access, store here; add, mul, leq in arithmetic.rt. Each tests its refusals in the order of document 01's numbers, then loads the
 // registers, changes them by value and saves them. The memory is known to be sound.
 ghost use Prim.Native.Nat.{_<_};
 ghost use Rattle.rules.specs.Limits.{recordCount};
@@ -6,11 +6,17 @@ ghost use Rattle.rules.specs.Numbers.{recordNumber};
 ghost use Rattle.rules.specs.Instruction.{cst as cstOf, access as accessOf, store as storeOf};
 ghost use Rattle.keeping.specs.Demand3.{SoundMemory};
 ghost use Rattle.stepping.specs.Stepped.{Stepped};
+pub use arithmetic::add;
+pub use arithmetic::leq;
+pub use arithmetic::mul;
 use rules::FEW_VALUES;
 use rules::NO_ENVIRONMENT_PLACE;
 use rules::Record;
 use rules::Reply;
 use rules::TOO_MANY_VALUES;
+
+mod arithmetic;
+mod wide;
 
 // v is pushed.
 pub fn cst(m: &mut [u8], r: Record, v: i32, next: u16) -> Reply

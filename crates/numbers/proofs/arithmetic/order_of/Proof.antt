@@ -1,0 +1,34 @@
+-- The order of the two values on top. Assumes nothing.
+use mathlib.Core.Path.{_≡_, ap₂, _∙_}
+use lib.IntN.{ℤ}
+use lib.Signed.{leZ}
+use borrow.Author.Needs.{needs}
+use mir.Syntax.{w32}
+use mir.Val.{SFits}
+use mir.Facts.{toZ-ofZ}
+use Rattle.rules.specs.RecordStep.{yesOrNo}
+use Rattle.numbers.proofs.arithmetic.order_of.Statement.{statement}
+use Rattle.numbers.proofs.arithmetic.order_of.Tie as tie
+
+top-requires : tie.Need-top-requires
+top-requires c κs = search needs
+
+below-requires : tie.Need-below-requires
+below-requires c κs = search needs
+
+at-most-requires : tie.Need-at-most-requires
+at-most-requires c κs = search needs
+
+returns : tie.Need-returns
+returns c g h =
+    let at-below = c .before in
+    let at-top = at-below .before in
+    let of-result : SFits w32 (c .at-most .result) = search needs in
+    let of-top : SFits w32 (at-top .top .result) = search needs in
+    let of-below : SFits w32 (at-below .below .result) = search needs in
+    let first = toZ-ofZ {w = w32} of-top ∙ at-top .top .ensures g h in
+    let second = toZ-ofZ {w = w32} of-below ∙ at-below .below .ensures g h in
+    toZ-ofZ {w = w32} of-result ∙ c .at-most .ensures ∙ ap₂ (λ (a b : ℤ). yesOrNo (leZ a b)) first second
+
+pub order-of-spec : {M : Type 1} → statement M
+order-of-spec = tie.close (tie.spec top-requires below-requires at-most-requires returns)
