@@ -14,6 +14,9 @@ ghost use Rattle.memory.specs.Sections.{cellCount};
 // The fixed length of the state memory.
 pub const STATE_SIZE: usize = 16902;
 
+// Where the code stands, behind its length.
+pub const CODE_AT: usize = 2;
+
 // Where the records, the word of free ends and the queues stand.
 const RECORDS_AT: usize = 8158;
 
@@ -71,5 +74,13 @@ pub fn code(m: &[u8]) -> &[u8]
     ensures { λ r. ⌜ now r ≡ view (now (m .entry)) .code ⌝ }
 {
     let size = words::get16(m, 0) as usize;
-    &m[2..2 + size]
+    &m[CODE_AT..CODE_AT + size]
+}
+
+// The length of a code that has been put where the code stands.
+pub fn put_code_length(m: &mut [u8], size: usize)
+    requires { ⌜ (length (now m) ≡ stateSize) × (size ≤ codeLimit) ⌝ }
+    ensures { λ _. ⌜ now (m .exit) ≡ putAt (now (m .entry)) 0 (bytesOf 2 size) ⌝ }
+{
+    words::put16(m, 0, size as u16);
 }

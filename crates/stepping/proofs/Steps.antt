@@ -2,12 +2,13 @@
 -- as it was, and registers saved are the state after. Assumes nothing.
 use mathlib.Core.Path.{_≡_, sym, ap, _∙_, subst}
 use mathlib.Core.List.{List}
-use Prim.Native.Nat.{ℕ, _≤_}
+use Prim.Native.Nat.{ℕ, _≤_, _<_}
 use native.Mathlib.Omega.{arith}
-use lib.ListN.{length}
+use lib.ListN.{length, drop, length-take, length-drop}
 use Rattle.rules.specs.State.{State, Registers as Process, RecordState, free-record, running, waiting, recordAt}
 use Rattle.rules.specs.Refusal.{Answer, refused, done}
-use Rattle.rules.specs.Limits.{environmentDepth}
+use Rattle.rules.specs.Limits.{recordCount, environmentDepth, codeLimit}
+use Rattle.rules.specs.Bytes.{numberAt}
 use Rattle.rules.specs.Layout.{noRegisters, layout, view}
 use Rattle.rules.specs.Sound.{RegistersWithin, RecordWithin}
 use Rattle.rules.specs.Calls.{layoutOr}
@@ -16,8 +17,11 @@ use Rattle.rules.specs.Promise.{Promise}
 use Rattle.rules.specs.declared.Reply.the-variants.{Done, Refused}
 use Rattle.keeping.specs.Demand3.{SoundMemory}
 use Rattle.keeping.proofs.LayoutLaws.{Sized}
+use Rattle.keeping.proofs.Running.{running-in-list}
+use Rattle.keeping.proofs.Memories.{memory-length}
 use Rattle.registers.specs.declared.Registers.{Registers}
 use Rattle.registers.specs.Registers.{registersOf, registersIn}
+use Rattle.stepping.specs.Stepped.{RunsAt}
 
 -- ---- replies
 
@@ -56,6 +60,18 @@ held-small m s r f =
     small free-record w e = rw e (omega arith)
     small (running g) w e = rw e (w .environment-within)
     small (waiting g) w e = rw e (w .environment-within)
+
+-- ---- a record that runs, and the code
+
+-- its number is one of a record's
+pub in-range : (m : List ℕ) → SoundMemory m → (r : ℕ) → RunsAt m r → r < recordCount
+in-range m s r a = rw (sym (s .state-sound .S1 .record-count)) (running-in-list (view m) r (a .process) (a .runs))
+
+-- the number of bytes of the code that stands in a sound memory
+pub code-fits : (m : List ℕ) → SoundMemory m → numberAt 2 m 0 ≤ codeLimit
+unfolding view
+code-fits m s =
+    omega (arith, s .state-sound .S1 .code-within, memory-length m s, length-take (numberAt 2 m 0) (drop 2 m), length-drop 2 m)
 
 -- ---- counts
 

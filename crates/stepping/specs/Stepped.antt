@@ -18,3 +18,8 @@ abbrev pub Stepped : (m : List ℕ) (r next : ℕ) → Instruction → Reply →
 Stepped m r next i reply left =
     (g : Registers) → recordAt (view m) r ≡ running g
     → Promise (replyTo (answerTo (view m) r next g i)) (layoutOr m (answerTo (view m) r next g i)) reply left
+
+-- record r runs in the state that m shows
+pub record RunsAt (m : List ℕ) (r : ℕ) : Type 0 where
+  pub process : Registers
+  pub runs : recordAt (view m) r ≡ running process

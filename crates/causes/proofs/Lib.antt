@@ -1,0 +1,3 @@
+pub mod RowTests
+pub mod OwnRows
+pub mod Shared
