@@ -1,5 +1,5 @@
 -- load: 24, what the reader says, or the start state with the image's code. Assumes nothing.
-use mathlib.Core.Path.{_≡_, sym, ap, _∙_}
+use mathlib.Core.Path.{sym, ap, _∙_}
 use native.Mathlib.Omega.{arith}
 use borrow.Author.Needs.{needs}
 use Rattle.image.specs.Answers.{foundAnswer}

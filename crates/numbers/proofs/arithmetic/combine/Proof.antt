@@ -1,5 +1,5 @@
 -- Combined, moved and saved. Assumes nothing.
-use mathlib.Core.Path.{_≡_, ap, _∙_}
+use mathlib.Core.Path.{ap, _∙_}
 use lib.IntN.{ℤ}
 use borrow.Author.Needs.{needs}
 use mir.Facts.{toZ-ofZ}

@@ -3,10 +3,10 @@ use mathlib.Core.Path.{_≡_, sym, ap, _∙_}
 use mathlib.Core.Bool.{true, false}
 use lib.IntN.{ℤ}
 use borrow.Author.Needs.{needs}
-use mir.Syntax.{w32, w64}
+use mir.Syntax.{w32}
 use mir.Val.{SFits}
 use mir.Facts.{toZ-ofZ}
-use Rattle.rules.specs.State.{State, running, setRecord}
+use Rattle.rules.specs.State.{running, setRecord}
 use Rattle.rules.specs.Causes.{outside}
 use Rattle.rules.specs.Layout.{layout}
 use Rattle.registers.specs.Registers.{combined, movedTo}

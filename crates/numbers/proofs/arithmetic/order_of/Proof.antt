@@ -1,5 +1,5 @@
 -- The order of the two values on top. Assumes nothing.
-use mathlib.Core.Path.{_≡_, ap₂, _∙_}
+use mathlib.Core.Path.{ap₂, _∙_}
 use lib.IntN.{ℤ}
 use lib.Signed.{leZ}
 use borrow.Author.Needs.{needs}

@@ -1,7 +1,5 @@
 -- The test on the numbers themselves. Assumes nothing.
-use mathlib.Core.Path.{_≡_, sym, ap, ap₂, _∙_}
-use mathlib.Core.Bool.{Bool}
-use lib.IntN.{ℤ}
+use mathlib.Core.Path.{sym, ap, ap₂, _∙_}
 use lib.Signed.{leZ}
 use mir.Facts.{toZ-ofZ}
 use Rattle.rules.specs.RecordStep.{yesOrNo}
