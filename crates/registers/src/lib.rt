@@ -18,6 +18,7 @@ pub use records::clear;
 pub use records::environment_value;
 pub use records::load;
 pub use records::lowest_free_record;
+pub use records::place_of;
 pub use records::save_running;
 pub use records::save_waiting;
 pub use records::status_of;

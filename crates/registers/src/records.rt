@@ -62,6 +62,15 @@ pub fn status_of(m: &[u8], r: Record) -> Status
     }
 }
 
+// The place of record r.
+pub fn place_of(m: &[u8], r: Record) -> u16
+    requires { ⌜ (length (now m) ≡ stateSize) × (recordNumber r < recordCount) ⌝ }
+    ensures { λ p. ⌜ ((st : State) → Sized st → RecordWithin (recordAt st (recordNumber r)) → now (m .entry) ≡ layout st
+        → p ≡ registersIn (recordAt st (recordNumber r)) .place) ⌝ }
+{
+    words::get16(m, start_of(r) + 1)
+}
+
 // The registers of record r.
 pub fn load(m: &[u8], r: Record) -> Registers
     requires { ⌜ (length (now m) ≡ stateSize) × (recordNumber r < recordCount) ⌝ }
