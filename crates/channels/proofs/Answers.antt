@@ -1,0 +1,143 @@
+-- The answer of a step in two parts, as the code gives it: the rows 5 to 11 by the registers, then 13 or the state after. Assumes nothing.
+use mathlib.Core.Path.{_≡_, refl, sym, ap, _∙_}
+use mathlib.Core.Bool.{Bool, true, false}
+use mathlib.Core.List.{List, [], _∷_}
+use Prim.Native.Nat.{ℕ}
+use native.Mathlib.Omega.{arith}
+use Rattle.rules.specs.State.{State, Registers as Process, RecordState, running, Item, recordAt, setRecord, endIn}
+use Rattle.rules.specs.Refusal.{Answer, refused, done, NoCause, unless}
+use Rattle.rules.specs.Instruction.{Instruction}
+use Rattle.rules.specs.Causes.{empty, ownCauses, sharedCauses, queueFull}
+use Rattle.rules.specs.RecordStep.{append, waits, lowestFree, after}
+use Rattle.rules.specs.Layout.{layout, view}
+use Rattle.rules.specs.Sound.{RegistersWithin, RecordWithin}
+use Rattle.rules.specs.Ask.{answerTo}
+use Rattle.rules.specs.Calls.{layoutOr}
+use Rattle.rules.specs.Numbers.{replyTo}
+use Rattle.rules.specs.Promise.{Promise}
+use Rattle.rules.specs.declared.Reply.{Reply}
+use Rattle.rules.specs.declared.Reply.the-variants.{Done, Refused}
+use Rattle.rules.proofs.Rows.{all-passed}
+use Rattle.keeping.specs.Demand3.{SoundMemory}
+use Rattle.keeping.proofs.LayoutLaws.{Sized}
+use Rattle.registers.specs.declared.Registers.{Registers}
+use Rattle.registers.specs.Registers.{registersOf, registersIn}
+use Rattle.ends.proofs.Changes.{sized-anew}
+use Rattle.causes.specs.Own.{ownAnswer, ownReply}
+use Rattle.causes.proofs.Shared.{own-refused, own-done}
+use Rattle.stepping.proofs.Steps.{refused-step, done-step, registers-ok, held-is}
+use Rattle.channels.specs.Appending.{shownBy, HoldsEnd, Runs, unlessFull, Appended, Waited}
+use Rattle.channels.specs.Splitting.{sharedAnswer, SharedStep}
+use Rattle.channels.proofs.Holding.{shown-within}
+
+abbrev isRefused : Reply → ℕ
+isRefused Done = 0
+isRefused (Refused n) = 1
+
+pub refused-not-done : {A : Type 0} {n : ℕ} → Refused n ≡ Done → A
+refused-not-done e = absurd (let z : _≡_ {A = ℕ} 1 0 = ap isRefused e in omega arith)
+
+pub sized-view : {m : List ℕ} → SoundMemory m → Sized (view m)
+sized-view s = record { records-sized = s .state-sound .S1 .record-count; ends-sized = s .state-sound .S1 .end-count }
+
+-- ---- the rows 5 to 11
+
+-- where the reply is done, none of them holds
+passed-all : (g : Process) (i : Instruction) → ownReply g i ≡ Done → NoCause (ownCauses g i)
+passed-all g i e = all-passed (ownCauses g i) (done tt) tt (is-done (ownAnswer g i) e) .0
+  where
+    is-done : (a : Answer (Unit {0})) → replyTo a ≡ Done → a ≡ done tt
+    is-done (refused n) q = refused-not-done q
+    is-done (done tt) q = refl
+
+-- a step has begun: the registers x are loaded from record r of a sound memory, and `causes` replies of them for instruction i
+pub record Begun (m : List ℕ) (r : ℕ) (i : Instruction) (x : Registers) (reply : Reply) : Type 0 where
+  pub sound : SoundMemory m
+  pub load-is : (st : State) → Sized st → RecordWithin (recordAt st r) → m ≡ layout st → x ≡ registersOf (registersIn (recordAt st r))
+  pub reply-is : (g : Process) → RegistersWithin g → x ≡ registersOf g → reply ≡ ownReply g i
+
+pub told : {m : List ℕ} {r : ℕ} {i : Instruction} {x : Registers} {reply reply′ : Reply} → Begun m r i x reply → reply ≡ reply′
+    → Begun m r i x reply′
+told b e = record { sound = b .sound; load-is = b .load-is; reply-is = λ g w q. sym e ∙ b .reply-is g w q }
+
+-- 5 to 11 are the answer
+pub own-step : {m : List ℕ} {r : ℕ} {i : Instruction} {x : Registers} {n : ℕ} → Begun m r i x (Refused n) → (next : ℕ) (g : Process)
+    → recordAt (view m) r ≡ running g
+    → Promise (replyTo (answerTo (view m) r next g i)) (layoutOr m (answerTo (view m) r next g i)) (Refused n) m
+own-step {m} {r} {i} {x} {n} b next g is =
+    let here = b .reply-is g (registers-ok m (b .sound) r g is) (held-is m (b .sound) r g is (b .load-is)) in
+    refused-step n (own-refused (view m) r next g i n (sym here))
+
+-- none of them holds
+module _ {m : List ℕ} {r : ℕ} {i : Instruction} {x : Registers} (b : Begun m r i x Done) where
+  -- whatever the record is
+  pub loaded : x ≡ registersOf (shownBy m r)
+  loaded =
+      let within = b .sound .state-sound .S1 .records-within r in
+      b .load-is (view m) (sized-view (b .sound)) within (b .sound .laid-out)
+
+  pub shown-passed : NoCause (ownCauses (shownBy m r) i)
+  shown-passed = passed-all (shownBy m r) i (sym (b .reply-is (shownBy m r) (shown-within m (b .sound) r) loaded))
+
+  pub holds-end : (c : ℕ) → ((g : Process) → NoCause (ownCauses g i) → empty c g ≡ false) → HoldsEnd m x c
+  holds-end c named = record { owner = r; sound = b .sound; is-loaded = loaded; not-empty = named (shownBy m r) shown-passed }
+
+  -- where it runs with registers g
+  module _ (g : Process) (is : recordAt (view m) r ≡ running g) where
+    here : Done ≡ ownReply g i
+    here = b .reply-is g (registers-ok m (b .sound) r g is) (held-is m (b .sound) r g is (b .load-is))
+
+    pub runs-here : (c : ℕ) → ((g : Process) → NoCause (ownCauses g i) → empty c g ≡ false) → Runs m r x g c
+    runs-here c named = record {
+      runs = is;
+      is-held = held-is m (b .sound) r g is (b .load-is);
+      not-empty = named g (passed-all g i (sym here));
+    }
+
+    pub shared-left : (next : ℕ)
+        → answerTo (view m) r next g i ≡ unless (sharedCauses (view m) g i) (done (after (view m) r next g (lowestFree (view m)) i))
+    shared-left next = own-done (view m) r next g i (sym here)
+
+-- ---- 13
+
+-- the code has answered with 13 or the state x; the step's answer is 13 or the state y
+full-case : (b : Bool) (x y : State) (m : List ℕ) {left : List ℕ} {n : ℕ} → let a = unless ((13, b) ∷ []) (done x) in
+    let a′ = unless ((13, b) ∷ []) (done y) in
+    Promise (replyTo a) (layoutOr m a) (Refused n) left → Promise (replyTo a′) (layoutOr m a′) (Refused n) left
+unfolding unless
+full-case true x y m p = record { answer-is = p .answer-is; memory-is = p .memory-is }
+full-case false x y m p = refused-not-done (p .answer-is)
+
+room-case : (b : Bool) (x y : State) (m : List ℕ) {left : List ℕ} → let a = unless ((13, b) ∷ []) (done x) in
+    Promise (replyTo a) (layoutOr m a) Done left → (left ≡ layout x) × (unless ((13, b) ∷ []) (done y) ≡ done y)
+unfolding unless
+room-case true x y m p = refused-not-done (sym (p .answer-is))
+room-case false x y m p = (p .memory-is, refl)
+
+module _ {m : List ℕ} {g : Process} {c : ℕ} {y : Item} {reply : Reply} {left : List ℕ} (p : Appended m g c y reply left) where
+  promised : (reply′ : Reply) → reply ≡ reply′
+      → let a = unlessFull (view m) g c (append (view m) (endIn g c) y) in Promise (replyTo a) (layoutOr m a) reply′ left
+  promised reply′ e = record { answer-is = sym e ∙ p .appended .answer-is; memory-is = p .appended .memory-is }
+
+  -- 13 is the answer
+  pub full-step : {n : ℕ} → reply ≡ Refused n → (st : State) {a : Answer State} → a ≡ unlessFull (view m) g c st
+      → Promise (replyTo a) (layoutOr m a) (Refused n) left
+  full-step e st q = rw q (full-case (queueFull (view m) c g) (append (view m) (endIn g c) y) st m (promised _ e))
+
+  -- the item y′ stands on the queue, and record r is put anew
+  pub sent : reply ≡ Done → SoundMemory m → {y′ : Item} → y ≡ y′ → (r : ℕ) (z : RecordState) {exit : List ℕ}
+      → ((st : State) → Sized st → left ≡ layout st → exit ≡ layout (setRecord st r z)) → {a : Answer State}
+      → a ≡ unlessFull (view m) g c (setRecord (append (view m) (endIn g c) y′) r z) → Promise (replyTo a) (layoutOr m a) Done exit
+  sent e s {y′} same r z save q =
+      let st = append (view m) (endIn g c) y′ in
+      let goes = room-case (queueFull (view m) c g) (append (view m) (endIn g c) y) (setRecord st r z) m (promised Done e) in
+      let item-is = ap (λ (i : Item). layout (append (view m) (endIn g c) i)) same in
+      done-step m _ (q ∙ goes .1) (save st (sized-anew (view m) (endIn g c) _ (sized-view s)) (goes .0 ∙ item-is))
+
+pub waited-step : {m : List ℕ} {r : ℕ} {g : Process} {c : ℕ} {reply : Reply} {left : List ℕ} → Waited m r g c reply left
+    → {a : Answer State} → a ≡ unlessFull (view m) g c (waits (view m) r g c) → Promise (replyTo a) (layoutOr m a) reply left
+waited-step w q = rw q (w .waited)
+
+pub shared-step : {m : List ℕ} {r next : ℕ} {g : Process} {i : Instruction} {reply : Reply} {left : List ℕ}
+    → SharedStep m r next g i reply left → {a : Answer State} → a ≡ sharedAnswer (view m) r next g i → Promise (replyTo a) (layoutOr m a) reply left
+shared-step h q = rw q (h .shared)

@@ -1,0 +1,88 @@
+-- The end in a slot of a record, in a sound memory: it is an end of the state, and that of a running record is in use with nothing last on
+-- its queue. Assumes nothing.
+use mathlib.Core.Path.{_≡_, refl, sym, ap, _∙_}
+use mathlib.Core.Bool.{false, not}
+use mathlib.Core.Option.{Option, none, some}
+use mathlib.Core.List.{List}
+use Prim.Native.Nat.{ℕ, zero, suc, _<_}
+use native.Mathlib.Omega.{arith}
+use lib.ListN.{getD, replicate}
+use Rattle.rules.specs.Limits.{endCount, slotCount}
+use Rattle.rules.specs.State.{State, Registers as Process, RecordState, free-record, running, waiting, recordAt, endAt}
+use Rattle.rules.specs.State.{slotAt, endOr, endIn, isFreeEnd, lastOf}
+use Rattle.rules.specs.Slots.{isHeld}
+use Rattle.rules.specs.Causes.{empty}
+use Rattle.rules.specs.Layout.{noRegisters, view}
+use Rattle.rules.specs.Sound.{RegistersWithin, RecordWithin, heldIn}
+use Rattle.rules.proofs.TestLaws.{true-is-not-false}
+use Rattle.rules.proofs.SoundLaws.{slot-counts, held-within}
+use Rattle.keeping.specs.Demand3.{SoundMemory}
+use Rattle.keeping.proofs.Running.{own-end}
+use Rattle.registers.specs.declared.Registers.{Registers}
+use Rattle.registers.specs.declared.process.Held.{Held}
+use Rattle.registers.specs.Registers.{registersOf, registersIn, heldEnd}
+use Rattle.channels.specs.Appending.{shownBy, HoldsEnd, Runs}
+
+-- ---- the end that a slot stands for
+
+pub end-is : {h : Held} {o : Option ℕ} → heldEnd h ≡ o → (x : Held) → h ≡ x → endOr endCount (heldEnd x) ≡ endOr endCount o
+end-is e x q = ap (λ (y : Held). endOr endCount (heldEnd y)) (sym q) ∙ ap (endOr endCount) e
+
+-- ---- whatever the record is
+
+-- the registers that a record shows are within the limits; a free one shows none
+shown-registers : (x : RecordState) → RecordWithin x → RegistersWithin (registersIn x)
+unfolding noRegisters
+shown-registers free-record w = record {
+  place-within = omega arith;
+  stack-within = omega arith;
+  environment-within = omega arith;
+  stack-values = λ i. omega arith;
+  environment-values = λ i. omega arith;
+  slots-within = refl;
+}
+shown-registers (running g) w = w
+shown-registers (waiting g) w = w
+
+pub shown-within : (m : List ℕ) → SoundMemory m → (r : ℕ) → RegistersWithin (shownBy m r)
+shown-within m s r = shown-registers (recordAt (view m) r) (s .state-sound .S1 .records-within r)
+
+-- a slot that is not empty holds the end that it stands for
+holds-some : (o : Option ℕ) → not (isHeld o) ≡ false → o ≡ some (endOr endCount o)
+holds-some none h = true-is-not-false refl h
+holds-some (some e) h = refl
+
+all-empty : (n c : ℕ) → getD (replicate {A = Option ℕ} n none) c none ≡ none
+all-empty zero c = refl
+all-empty (suc n) zero = refl
+all-empty (suc n) (suc c) = all-empty n c
+
+-- it is held by that record
+held-counts : (x : RecordState) (c : ℕ) → empty c (registersIn x) ≡ false → 0 < heldIn (endIn (registersIn x) c) x
+unfolding noRegisters
+held-counts free-record c h = true-is-not-false (ap (λ (o : Option ℕ). not (isHeld o)) (all-empty slotCount c)) h
+held-counts (running g) c h = slot-counts (g .slots) c _ (holds-some (slotAt g c) h)
+held-counts (waiting g) c h = slot-counts (g .slots) c _ (holds-some (slotAt g c) h)
+
+-- so it is an end of the state
+pub end-within : {m : List ℕ} {x : Registers} {c e : ℕ} → HoldsEnd m x c
+    → ((g : Process) → RegistersWithin g → x ≡ registersOf g → e ≡ endIn g c) → e < endCount
+end-within {m} {x} {c} h is =
+    let st = view m in
+    let g = shownBy m (h .owner) in
+    let inside = held-within st (h .sound .state-sound) (h .owner) (endIn g c) (held-counts (recordAt st (h .owner)) c (h .not-empty)) in
+    omega (arith, is g (shown-within m (h .sound) (h .owner)) (h .is-loaded), inside)
+
+-- ---- a running record
+
+-- the end e in slot c of a running record: in use, with nothing last on its queue
+pub record Own (st : State) (e : ℕ) : Type 0 where
+  pub in-use : isFreeEnd (endAt st e) ≡ false
+  pub no-last : lastOf (endAt st e) ≡ none
+
+pub own : {m : List ℕ} → SoundMemory m → {r : ℕ} {x : Registers} {g : Process} {c : ℕ} → Runs m r x g c → (e : ℕ) → e ≡ endIn g c
+    → Own (view m) e
+own {m} s {r} {x} {g} {c} h e is =
+    let some-end = holds-some (slotAt g c) (h .not-empty) ∙ ap some (sym is) in
+    let was = own-end (view m) (s .state-sound) r g (h .runs) c e some-end .was in
+    record { in-use = ap isFreeEnd was; no-last = ap lastOf was }

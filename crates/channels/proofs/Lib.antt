@@ -1,0 +1,5 @@
+pub mod Holding
+pub mod Answers
+pub mod Appends
+pub mod Named
+pub mod Splits
