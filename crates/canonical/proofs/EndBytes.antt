@@ -20,14 +20,16 @@ use Rattle.rules.specs.Bytes.{bytesOf, numberAt, flat, pad, pieces}
 use Rattle.rules.specs.State.{Datum, value, handle, Last, split-item, close-item, wait-item, EndState, free-end, used, queueLength}
 use Rattle.rules.specs.EndStep.{onlyIf}
 use Rattle.rules.specs.SoundTest.{all, datumWithin, lastWithin, endWithin}
-use Rattle.rules.specs.Layout.{cellSize, queueSize, partnerByte, datumCell, lastCell, lastCells, queueCells, queueBytes, Queue, queue, inFront, cellKind, viewCell, viewCells, viewQueue, viewEnd}
+use Rattle.rules.specs.Layout.{cellSize, queueSize, partnerByte, datumCell, lastCell, lastCells, queueCells, queueBytes, Queue, queue}
+use Rattle.rules.specs.Layout.{inFront, cellKind, viewCell, viewCells, viewQueue, viewEnd}
 use Rattle.rules.proofs.TestLaws.{both, left-of, right-of, all-true-read, all-true-write, true-is-not-false}
 use Rattle.words.specs.Parts.{Bytes}
 use Rattle.words.proofs.Numbers.{length-bytes, bytes-number, number-bytes}
 use Rattle.words.proofs.Pads.{length-pad, pad-same, pad-all, take-pad}
 use Rattle.words.proofs.Pieces.{pieces-flat, length-pieces}
-use Rattle.canonical.specs.Canonical.{part, zeros, either, cellsIn, datumFits, lastFits, isDatum, isLast, canonicalCells, canonicalQueue, canonicalEnd}
-use Rattle.canonical.proofs.Padding.{zeros-read, zeros-write, flat-none, cells-from, cells-to}
+use Rattle.canonical.specs.Canonical.{part, allZero, either, cellsIn, datumFits, lastFits, isDatum, isLast, canonicalCells}
+use Rattle.canonical.specs.Canonical.{canonicalQueue, canonicalEnd}
+use Rattle.canonical.proofs.Padding.{all-zero-read, all-zero-write, flat-none, cells-from, cells-to}
 
 -- ---- the cells in use
 
@@ -66,7 +68,8 @@ module _ (c : ℕ) (cs : List ℕ) where
       (onlyIf (lastFits (cellKind k) (c / 256)) (eqb (length cs) 0))) q
 
 -- a datum in front of a queue
-datum-from : (d : Datum) (q : Queue) (c : ℕ) (cs : List ℕ) → datumCell d ≡ c → datumWithin d ≡ true → Holds cs q → Holds (c ∷ cs) (inFront d q)
+datum-from : (d : Datum) (q : Queue) (c : ℕ) (cs : List ℕ) → datumCell d ≡ c → datumWithin d ≡ true → Holds cs q
+    → Holds (c ∷ cs) (inFront d q)
 unfolding all
 datum-from d q c cs e w h = record {
   cells = λ i. e i ∷ h .cells i;
@@ -140,7 +143,8 @@ items-from (c ∷ cs) h = subst (Holds (c ∷ cs)) (sym (shows c cs refl)) (go (
         → either (datumFits (cellKind n) x) (canonicalCells cs) (onlyIf (lastFits (cellKind n) x) (eqb (length cs) 0)) ≡ true
     test q = sym (tests c cs q) ∙ h
 
-    go : (n : ℕ) → c % 256 ≡ n → (canonicalCells cs ≡ true → Holds cs (viewCells cs)) → Holds (c ∷ cs) (viewCell (cellKind n) x (viewCells cs))
+    go : (n : ℕ) → c % 256 ≡ n → (canonicalCells cs ≡ true → Holds cs (viewCells cs))
+        → Holds (c ∷ cs) (viewCell (cellKind n) x (viewCells cs))
     go zero q rest = true-is-not-false (test q) refl
     go (suc zero) q rest =
         let t = either-read (ltb x 4294967296) (canonicalCells cs) (eqb (length cs) 0) (test q) in
@@ -272,17 +276,19 @@ module _ (bytes : List ℕ) (b : Bytes bytes) (l : length bytes ≡ queueSize) (
       let e : cellSize * (queueDepth - k) ≡ queueSize - cellSize * k = omega arith in
       ap (λ (i : ℕ). take i (drop (cellSize * k) bytes)) e
 
-  used-from : zeros (part (cellSize * k) queueSize bytes) ≡ true → flat (bytesOf cellSize) (pad queueDepth 0 (take k (cellsIn bytes))) ≡ bytes
+  used-from : allZero (part (cellSize * k) queueSize bytes) ≡ true
+      → flat (bytesOf cellSize) (pad queueDepth 0 (take k (cellsIn bytes))) ≡ bytes
   unfolding cellsIn
   used-from z =
       cells-from (bytesOf cellSize) cellSize 0 zero-cell numberIn cell-bytes k (queueDepth - k) queueDepth (omega arith) bytes b
       (omega arith) (rw behind-is z)
       ∙ take-all queueSize bytes (omega arith)
 
-  used-to : flat (bytesOf cellSize) (pad queueDepth 0 (take k (cellsIn bytes))) ≡ bytes → zeros (part (cellSize * k) queueSize bytes) ≡ true
+  used-to : flat (bytesOf cellSize) (pad queueDepth 0 (take k (cellsIn bytes))) ≡ bytes
+      → allZero (part (cellSize * k) queueSize bytes) ≡ true
   unfolding cellsIn
   used-to e =
-      subst (λ (r : List ℕ). zeros r ≡ true) behind-is
+      subst (λ (r : List ℕ). allZero r ≡ true) behind-is
       (cells-to (bytesOf cellSize) cellSize 0 zero-cell numberIn cell-bytes k (queueDepth - k) queueDepth (omega arith) bytes b
       (omega arith) (e ∙ sym (take-all queueSize bytes (omega arith))))
 
@@ -307,7 +313,7 @@ module _ (m k : ℕ) (bytes : List ℕ) (b : Bytes bytes) (l : length bytes ≡ 
       record {
         partner-same = sym (eqb-true m 0 (t .0));
         count-same = sym (eqb-true k 0 (t .1 .0));
-        queue-same = free-queue ∙ sym (zeros-read bytes (t .1 .1 .0) ∙ ap (λ (n : ℕ). pad n 0 []) l);
+        queue-same = free-queue ∙ sym (all-zero-read bytes (t .1 .1 .0) ∙ ap (λ (n : ℕ). pad n 0 []) l);
         end-within = refl;
       }
   end-from false h =
@@ -335,7 +341,7 @@ module _ (m k : ℕ) (bytes : List ℕ) (b : Bytes bytes) (l : length bytes ≡ 
     eq-eqb m 0 (sym (h .partner-same)),
     (
       eq-eqb k 0 (sym (h .count-same)),
-      (subst (λ (r : List ℕ). zeros r ≡ true) (sym free-queue ∙ h .queue-same) (zeros-write queueSize), tt),
+      (subst (λ (r : List ℕ). allZero r ≡ true) (sym free-queue ∙ h .queue-same) (all-zero-write queueSize), tt),
     ),
   )
   end-to false h =

@@ -15,14 +15,16 @@ use Rattle.rules.specs.Limits.{recordCount, endCount, codeLimit}
 use Rattle.rules.specs.Bytes.{bytesOf, numberAt, flat, pad}
 use Rattle.rules.specs.State.{State, free-end, free-record, recordAt, endAt, queueLength}
 use Rattle.rules.specs.SoundTest.{recordWithin, endWithin, byteWithin, within}
-use Rattle.rules.specs.Layout.{recordSize, freeSize, queueSize, recordsAt, freeAt, partnersAt, countsAt, queuesAt, stateSize, recordBytes, freeWord, partnerByte, queueBytes, layout, view}
+use Rattle.rules.specs.Layout.{recordSize, freeSize, queueSize, recordsAt, freeAt, partnersAt, countsAt, queuesAt, stateSize, recordBytes}
+use Rattle.rules.specs.Layout.{freeWord, partnerByte, queueBytes, layout, view}
 use Rattle.rules.proofs.TestLaws.{left-of, right-of, both, all-at, all-from, every-at, all-true-read, all-true-write}
 use Rattle.words.specs.Parts.{Bytes}
 use Rattle.words.proofs.Numbers.{length-bytes, bytes-number, number-bytes, number-in}
 use Rattle.words.proofs.Pads.{length-pad}
 use Rattle.words.proofs.Pieces.{length-flat}
 use Rattle.keeping.proofs.LayoutLaws.{length-record, length-queue}
-use Rattle.canonical.specs.Canonical.{part, zeros, codeLength, canonicalCode, recordPart, freeIn, queuePart, recordTest, endTest, canonicalBytes}
+use Rattle.canonical.specs.Canonical.{part, allZero, codeLength, canonicalCode, recordPart, freeIn, queuePart, recordTest, endTest}
+use Rattle.canonical.specs.Canonical.{canonicalBytes}
 use Rattle.canonical.proofs.Tests.{every-below}
 use Rattle.canonical.proofs.Bytes.{bytes-take, bytes-drop, length-part, cut-off, cut-at, flat-from, flat-at, map-from, map-at}
 use Rattle.canonical.proofs.Padding.{first-from, first-to}
@@ -64,7 +66,8 @@ sections-join st m s =
     ++ s .queue-bytes i))))))
     ∙ sym (in-sections m)
 
-sections-cut : (st : State) → length (st .records) ≡ recordCount → length (st .ends) ≡ endCount → (m : List ℕ) → layout st ≡ m → Sections st m
+sections-cut : (st : State) → length (st .records) ≡ recordCount → length (st .ends) ≡ endCount → (m : List ℕ)
+    → layout st ≡ m → Sections st m
 unfolding layout
 sections-cut st nr ne m e =
     let code = pad codeLimit 0 (st .code) in
@@ -164,8 +167,8 @@ module _ (m : List ℕ) (b : Bytes m) (l : length m ≡ stateSize) where
   unfolding canonicalCode view
   sections-from t records ends =
       let n = codeLength m in
-      let few = leb-true n codeLimit (left-of (leb n codeLimit) (zeros (part (2 + n) recordsAt m)) t) in
-      let zero-behind = right-of (leb n codeLimit) (zeros (part (2 + n) recordsAt m)) t in
+      let few = leb-true n codeLimit (left-of (leb n codeLimit) (allZero (part (2 + n) recordsAt m)) t) in
+      let zero-behind = right-of (leb n codeLimit) (allZero (part (2 + n) recordsAt m)) t in
       let xs = view m .ends in
       let nr = records-shown m in
       let ne = ends-shown m in
@@ -173,7 +176,8 @@ module _ (m : List ℕ) (b : Bytes m) (l : length m ≡ stateSize) where
       let counts-fit : length xs ≤ length (drop countsAt m) = rw (length-drop countsAt m) (omega arith) in
       record {
         code-length = ap (bytesOf 2) (length-code few) ∙ bytes-number 2 m 0 b (omega arith);
-        code-bytes = first-from n (codeLimit - n) codeLimit (omega arith) (drop 2 m) (rw (length-drop 2 m) (omega arith)) (rw behind-code zero-behind);
+        code-bytes = first-from n (codeLimit - n) codeLimit (omega arith) (drop 2 m) (rw (length-drop 2 m) (omega arith))
+            (rw behind-code zero-behind);
         record-bytes = flat-from recordBytes recordSize length-record free-record (view m .records) (drop recordsAt m)
             (λ r h. records r (omega arith) .0 ∙ ap (take recordSize) (sym (drop-drop (recordSize * r) recordsAt m)))
             ∙ ap (λ (k : ℕ). take (recordSize * k) (drop recordsAt m)) nr;
@@ -194,7 +198,7 @@ module _ (m : List ℕ) (b : Bytes m) (l : length m ≡ stateSize) where
   unfolding canonicalCode within byteWithin recordWithin endWithin
   within-from t records ends =
       let n = codeLength m in
-      let few = leb-true n codeLimit (left-of (leb n codeLimit) (zeros (part (2 + n) recordsAt m)) t) in
+      let few = leb-true n codeLimit (left-of (leb n codeLimit) (allZero (part (2 + n) recordsAt m)) t) in
       all-true-write _ (
         le-leb (length code) codeLimit (omega (arith, length-code few)),
         (
@@ -240,7 +244,7 @@ module _ (m : List ℕ) (b : Bytes m) (l : length m ≡ stateSize) where
       let same : n ≡ length code =
       number-in 2 m 0 2 0 (omega arith) ∙ ap (λ (r : List ℕ). numberAt 2 r 0) (sym (s .code-length))
       ∙ number-bytes 2 (length code) [] (omega arith) in
-      both (le-leb n codeLimit (omega arith)) (subst (λ (r : List ℕ). zeros r ≡ true) behind-code
+      both (le-leb n codeLimit (omega arith)) (subst (λ (r : List ℕ). allZero r ≡ true) behind-code
       (first-to n (codeLimit - n) codeLimit (omega arith) (drop 2 m) (rw (length-drop 2 m) (omega arith)) (s .code-bytes)))
 
   pub canonical-to : Canonical → canonicalBytes m ≡ true

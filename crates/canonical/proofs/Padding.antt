@@ -3,7 +3,7 @@
 use mathlib.Core.Path.{_≡_, refl, sym, ap, _∙_, subst}
 use mathlib.Core.Bool.{Bool, true}
 use mathlib.Core.List.{List, [], _∷_, _++_, map}
-use Prim.Native.Nat.{ℕ, zero, suc, _+_, _*_, _≤_, _<_}
+use Prim.Native.Nat.{ℕ, zero, suc, _+_, _-_, _*_, _≤_, _<_}
 use native.Mathlib.Nat.{zero-add, suc-add, mul-zero, mul-suc, le-of-suc-le-suc}
 use native.Mathlib.Omega.{arith}
 use lib.ListN.{length, getD, take, drop, length-drop}
@@ -17,29 +17,29 @@ use Rattle.rules.specs.SoundTest.{all}
 use Rattle.rules.proofs.TestLaws.{both, left-of, right-of}
 use Rattle.words.specs.Parts.{Bytes}
 use Rattle.words.proofs.Pieces.{flat-append}
-use Rattle.canonical.specs.Canonical.{isZero, zeros}
+use Rattle.canonical.specs.Canonical.{isZero, allZero}
 use Rattle.canonical.proofs.Tests.{same-test, all-more}
 use Rattle.canonical.proofs.Bytes.{bytes-take, bytes-drop, length-part}
 
 -- ---- zeros
 
-pub zeros-read : (l : List ℕ) → zeros l ≡ true → l ≡ pad (length l) 0 []
-unfolding zeros all pad
-zeros-read [] h = refl
-zeros-read (x ∷ xs) h =
+pub all-zero-read : (l : List ℕ) → allZero l ≡ true → l ≡ pad (length l) 0 []
+unfolding allZero all pad
+all-zero-read [] h = refl
+all-zero-read (x ∷ xs) h =
     let first = eqb-true x 0 (left-of (eqb x 0) (all isZero xs) h) in
-    let rest = zeros-read xs (right-of (eqb x 0) (all isZero xs) h) in
+    let rest = all-zero-read xs (right-of (eqb x 0) (all isZero xs) h) in
     λ i. first i ∷ rest i
 
-pub zeros-write : (n : ℕ) → zeros (pad n 0 []) ≡ true
-unfolding zeros all pad
-zeros-write zero = refl
-zeros-write (suc n) = zeros-write n
+pub all-zero-write : (n : ℕ) → allZero (pad n 0 []) ≡ true
+unfolding allZero all pad
+all-zero-write zero = refl
+all-zero-write (suc n) = all-zero-write n
 
 -- a loop that joins bytes by or: before it, and after a turn
-pub zeros-none : true ≡ zeros []
-unfolding zeros all
-zeros-none = refl
+pub all-zero-none : true ≡ allZero []
+unfolding allZero all
+all-zero-none = refl
 
 or-zero : (a b : ℕ) → eqb (bitOr a b) 0 ≡ onlyIf (eqb a 0) (eqb b 0)
 or-zero a b = same-test (eqb (bitOr a b) 0) (onlyIf (eqb a 0) (eqb b 0)) forth back
@@ -59,10 +59,10 @@ or-zero a b = same-test (eqb (bitOr a b) 0) (onlyIf (eqb a 0) (eqb b 0)) forth b
         let sum = or-add-and a b in
         eq-eqb (bitOr a b) 0 (omega arith)
 
-pub zeros-more : (a : ℕ) (l : List ℕ) (i : ℕ) → i < length l → eqb a 0 ≡ zeros (take i l)
-    → eqb (bitOr a (getD l i 0)) 0 ≡ zeros (take (i + 1) l)
-unfolding zeros
-zeros-more a l i h e =
+pub all-zero-more : (a : ℕ) (l : List ℕ) (i : ℕ) → i < length l → eqb a 0 ≡ allZero (take i l)
+    → eqb (bitOr a (getD l i 0)) 0 ≡ allZero (take (i + 1) l)
+unfolding allZero
+all-zero-more a l i h e =
     or-zero a (getD l i 0) ∙ ap (λ (t : Bool). onlyIf t (eqb (getD l i 0) 0)) e ∙ sym (all-more isZero l i 0 h)
 
 pad-pad : {A : Type 0} (n k : ℕ) (z : A) → pad n z [] ++ pad k z [] ≡ pad (n + k) z []
@@ -80,28 +80,28 @@ pad-first (suc k) j z (x ∷ xs) h = rw (suc-add k j) (ap (λ (r : List _). x �
 -- ---- bytes that are zero behind the first n
 
 module _ (n j : ℕ) (m : List ℕ) (fits : n + j ≤ length m) where
-  pub zeros-behind : zeros (take j (drop n m)) ≡ true → take n m ++ pad j 0 [] ≡ take (n + j) m
+  pub zeros-behind : allZero (take j (drop n m)) ≡ true → take n m ++ pad j 0 [] ≡ take (n + j) m
   zeros-behind h =
-      let behind : take j (drop n m) ≡ pad j 0 [] = zeros-read (take j (drop n m)) h
+      let behind : take j (drop n m) ≡ pad j 0 [] = all-zero-read (take j (drop n m)) h
       ∙ ap (λ (k : ℕ). pad k 0 []) (length-part n j m fits) in
       sym (take-add n j m ∙ ap (λ (r : List ℕ). take n m ++ r) behind)
 
-  pub behind-zeros : take n m ++ pad j 0 [] ≡ take (n + j) m → zeros (take j (drop n m)) ≡ true
+  pub behind-zeros : take n m ++ pad j 0 [] ≡ take (n + j) m → allZero (take j (drop n m)) ≡ true
   behind-zeros e =
       let long : length (take n m) ≡ n = length-take-le n m (omega arith) in
       let behind : pad j 0 [] ≡ take j (drop n m) =
       sym (drop-at (take n m) (pad j 0 []) n long) ∙ ap (drop n) (e ∙ take-add n j m) ∙ drop-at (take n m) (take j (drop n m)) n long in
-      subst (λ (r : List ℕ). zeros r ≡ true) behind (zeros-write j)
+      subst (λ (r : List ℕ). allZero r ≡ true) behind (all-zero-write j)
 
 -- the first k bytes padded are the first n exactly if those between are zero
 module _ (k j n : ℕ) (e : k + j ≡ n) (m : List ℕ) (fits : n ≤ length m) where
   first-is : pad n 0 (take k m) ≡ take k m ++ pad j 0 []
   first-is = subst (λ (i : ℕ). pad i 0 (take k m) ≡ take k m ++ pad j 0 []) e (pad-first k j 0 m (omega arith))
 
-  pub first-from : zeros (take j (drop k m)) ≡ true → pad n 0 (take k m) ≡ take n m
+  pub first-from : allZero (take j (drop k m)) ≡ true → pad n 0 (take k m) ≡ take n m
   first-from h = first-is ∙ zeros-behind k j m (omega arith) h ∙ ap (λ (i : ℕ). take i m) e
 
-  pub first-to : pad n 0 (take k m) ≡ take n m → zeros (take j (drop k m)) ≡ true
+  pub first-to : pad n 0 (take k m) ≡ take n m → allZero (take j (drop k m)) ≡ true
   first-to h = behind-zeros k j m (omega arith) (sym first-is ∙ h ∙ ap (λ (i : ℕ). take i m) (sym e))
 
 -- ---- cells: f writes one in w bytes, g reads one, z is written as zeros
@@ -157,10 +157,10 @@ module _ {A : Type 0} (f : A → List ℕ) (w : ℕ) (z : A) (none : f z ≡ pad
     whole : w * k + w * j ≡ w * n
     whole = omega (arith, ap (λ (i : ℕ). w * i) e)
 
-    pub cells-from : zeros (take (w * j) (drop (w * k) m)) ≡ true → flat f (pad n z (take k (map g (pieces n w m)))) ≡ take (w * n) m
+    pub cells-from : allZero (take (w * j) (drop (w * k) m)) ≡ true → flat f (pad n z (take k (map g (pieces n w m)))) ≡ take (w * n) m
     cells-from h =
         padded-is ∙ zeros-behind (w * k) (w * j) m (omega (arith, whole)) h ∙ ap (λ (i : ℕ). take i m) whole
 
-    pub cells-to : flat f (pad n z (take k (map g (pieces n w m)))) ≡ take (w * n) m → zeros (take (w * j) (drop (w * k) m)) ≡ true
+    pub cells-to : flat f (pad n z (take k (map g (pieces n w m)))) ≡ take (w * n) m → allZero (take (w * j) (drop (w * k) m)) ≡ true
     cells-to h =
         behind-zeros (w * k) (w * j) m (omega (arith, whole)) (sym padded-is ∙ h ∙ ap (λ (i : ℕ). take i m) (sym whole))

@@ -20,16 +20,18 @@ use Rattle.rules.specs.Bytes.{bytesOf, numberAt, flat, pad, pieces}
 use Rattle.rules.specs.State.{Value, Registers, free-record}
 use Rattle.rules.specs.EndStep.{onlyIf}
 use Rattle.rules.specs.SoundTest.{all, valueWithin, slotWithin, registersWithin, recordWithin}
-use Rattle.rules.specs.Layout.{valueSize, recordSize, optional, valueBytes, registersBytes, noRegisters, recordBytes, viewOptional, viewValue, viewValues, viewRegisters, viewStatus, viewRecord}
+use Rattle.rules.specs.Layout.{valueSize, recordSize, optional, valueBytes, registersBytes, noRegisters, recordBytes, viewOptional}
+use Rattle.rules.specs.Layout.{viewValue, viewValues, viewRegisters, viewStatus, viewRecord}
 use Rattle.rules.proofs.TestLaws.{both, all-true-read, all-true-write, true-is-not-false}
 use Rattle.words.specs.Parts.{Bytes}
 use Rattle.words.proofs.Numbers.{bytes-number}
 use Rattle.words.proofs.Pads.{length-pad, pad-same}
 use Rattle.words.proofs.Pieces.{length-flat, length-pieces}
 use Rattle.keeping.proofs.LayoutLaws.{length-value}
-use Rattle.canonical.specs.Canonical.{part, zeros, either, slotsFrom, stackFrom, environmentFrom, slotFits, canonicalRegisters, canonicalRecord}
+use Rattle.canonical.specs.Canonical.{part, allZero, either, slotsFrom, stackFrom, environmentFrom, slotFits, canonicalRegisters}
+use Rattle.canonical.specs.Canonical.{canonicalRecord}
 use Rattle.canonical.proofs.Bytes.{bytes-take, bytes-drop, number-fits, length-part, cut-at}
-use Rattle.canonical.proofs.Padding.{zeros-read, zeros-write, cells-from, cells-to}
+use Rattle.canonical.proofs.Padding.{all-zero-read, all-zero-write, cells-from, cells-to}
 
 -- ---- values
 
@@ -73,17 +75,17 @@ module _ (from n to : ℕ) (e : from + valueSize * n ≡ to) (p : List ℕ) (b :
   fits-behind : valueSize * n ≤ length (drop from p)
   fits-behind = rw (length-drop from p) (omega arith)
 
-  values-from : zeros (part (from + valueSize * k) to p) ≡ true
+  values-from : allZero (part (from + valueSize * k) to p) ≡ true
       → flat valueBytes (pad n (pos 0) (viewValues n k (drop from p))) ≡ take (valueSize * n) (drop from p)
   unfolding viewValues
   values-from z = cells-from valueBytes valueSize (pos 0) zero-value viewValue value-bytes k (n - k) n (omega arith) (drop from p)
       (bytes-drop from p b) fits-behind (rw behind-is z)
 
   values-to : flat valueBytes (pad n (pos 0) (viewValues n k (drop from p))) ≡ take (valueSize * n) (drop from p)
-      → zeros (part (from + valueSize * k) to p) ≡ true
+      → allZero (part (from + valueSize * k) to p) ≡ true
   unfolding viewValues
   values-to q =
-      subst (λ (r : List ℕ). zeros r ≡ true) behind-is
+      subst (λ (r : List ℕ). allZero r ≡ true) behind-is
       (cells-to valueBytes valueSize (pos 0) zero-value viewValue value-bytes k (n - k) n (omega arith) (drop from p)
       (bytes-drop from p b) fits-behind q)
 
@@ -236,9 +238,9 @@ module _ (p : List ℕ) (b : Bytes p) (l : length p ≡ recordSize) where
   unfolding viewRecord
   shows q = ap (λ (k : ℕ). viewStatus k (viewRegisters p)) q
 
-  tests : {s : ℕ} → getD p 0 0 ≡ s → canonicalRecord p ≡ either (eqb s 0) (zeros p) (onlyIf (leb s 2) (canonicalRegisters p))
+  tests : {s : ℕ} → getD p 0 0 ≡ s → canonicalRecord p ≡ either (eqb s 0) (allZero p) (onlyIf (leb s 2) (canonicalRegisters p))
   unfolding canonicalRecord
-  tests q = ap (λ (k : ℕ). either (eqb k 0) (zeros p) (onlyIf (leb k 2) (canonicalRegisters p))) q
+  tests q = ap (λ (k : ℕ). either (eqb k 0) (allZero p) (onlyIf (leb k 2) (canonicalRegisters p))) q
 
   all-zero : recordBytes free-record ≡ pad recordSize 0 []
   unfolding recordBytes registersBytes noRegisters pad flat valueBytes
@@ -254,7 +256,7 @@ module _ (p : List ℕ) (b : Bytes p) (l : length p ≡ recordSize) where
     where
       go : (s : ℕ) → getD p 0 0 ≡ s → RecordSame
       go zero q =
-          let free = zeros-read p (sym (tests q) ∙ h) ∙ ap (λ (k : ℕ). pad k 0 []) l in
+          let free = all-zero-read p (sym (tests q) ∙ h) ∙ ap (λ (k : ℕ). pad k 0 []) l in
           rw (shows q) (all-zero ∙ sym free, refl)
       go (suc zero) q =
           let t = sym (tests q) ∙ h in
@@ -279,7 +281,7 @@ module _ (p : List ℕ) (b : Bytes p) (l : length p ≡ recordSize) where
       within q = ap recordWithin (sym (shows q)) ∙ h .1
 
       go : (s : ℕ) → getD p 0 0 ≡ s → canonicalRecord p ≡ true
-      go zero q = tests q ∙ subst (λ (r : List ℕ). zeros r ≡ true) (sym all-zero ∙ written q) (zeros-write recordSize)
+      go zero q = tests q ∙ subst (λ (r : List ℕ). allZero r ≡ true) (sym all-zero ∙ written q) (all-zero-write recordSize)
       go (suc zero) q = tests q ∙ registers-to 1 (written q) (within q)
       go (suc (suc zero)) q = tests q ∙ registers-to 2 (written q) (within q)
       go (suc (suc (suc n))) q = absurd (let e = ap (λ (r : List ℕ). getD r 0 0) (written q) ∙ q in omega arith)

@@ -3,7 +3,7 @@
 use mathlib.Core.Path.{_≡_, refl, ap, _∙_}
 use mathlib.Core.Bool.{Bool, true, false}
 use mathlib.Core.List.{List, [], _∷_}
-use Prim.Native.Nat.{ℕ, zero, suc, _+_, _*_, _/_, _%_, _^_, _<_}
+use Prim.Native.Nat.{ℕ, zero, suc, _+_, _-_, _*_, _/_, _%_, _^_, _<_}
 use native.Mathlib.Nat.{add-assoc, pow-succ', le-of-suc-le-suc}
 use native.Mathlib.Omega.{arith}
 use lib.ListN.{length, getD, take, drop, length-map, List·getD-map}
@@ -13,7 +13,8 @@ use Rattle.rules.specs.Limits.{recordCount, endCount}
 use Rattle.rules.specs.Bytes.{numberAt, pieces}
 use Rattle.rules.specs.State.{EndState, free-end, recordAt, endAt}
 use Rattle.rules.specs.Slots.{lowBit, inSet}
-use Rattle.rules.specs.Layout.{recordSize, freeSize, queueSize, recordsAt, freeAt, partnersAt, countsAt, queuesAt, freeWord, viewStatus, viewRecord, viewEnd, viewEnds, view}
+use Rattle.rules.specs.Layout.{recordSize, freeSize, queueSize, recordsAt, freeAt, partnersAt, countsAt, queuesAt, freeWord, viewStatus}
+use Rattle.rules.specs.Layout.{viewRecord, viewEnd, viewEnds, view}
 use Rattle.words.specs.Parts.{Bytes}
 use Rattle.words.proofs.Pieces.{length-pieces, getD-pieces}
 use Rattle.canonical.specs.Canonical.{recordPart, freeIn, queuePart}

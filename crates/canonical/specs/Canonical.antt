@@ -11,7 +11,8 @@ use Rattle.rules.specs.Bytes.{numberAt, pieces}
 use Rattle.rules.specs.Slots.{inSet}
 use Rattle.rules.specs.EndStep.{onlyIf}
 use Rattle.rules.specs.SoundTest.{all, every, allTrue}
-use Rattle.rules.specs.Layout.{valueSize, cellSize, recordSize, freeSize, queueSize, recordsAt, freeAt, partnersAt, countsAt, queuesAt, CellKind, no-cell, value-cell, handle-cell, split-cell, close-cell, wait-cell, cellKind}
+use Rattle.rules.specs.Layout.{valueSize, cellSize, recordSize, freeSize, queueSize, recordsAt, freeAt, partnersAt, countsAt, queuesAt}
+use Rattle.rules.specs.Layout.{CellKind, no-cell, value-cell, handle-cell, split-cell, close-cell, wait-cell, cellKind}
 
 -- the bytes from one place on up to another
 abbrev pub part : (from to : ℕ) → List ℕ → List ℕ
@@ -21,8 +22,8 @@ abbrev pub isZero : ℕ → Bool
 isZero b = eqb b 0
 
 -- all of these bytes are zero
-unfoldable pub zeros : List ℕ → Bool
-zeros bytes = all isZero bytes
+unfoldable pub allZero : List ℕ → Bool
+allZero bytes = all isZero bytes
 
 abbrev pub either : Bool → Bool → Bool → Bool
 either true a b = a
@@ -35,7 +36,7 @@ codeLength m = numberAt 2 m 0
 
 -- its length is at most the limit, and what stands behind it is zero
 unfoldable pub canonicalCode : List ℕ → Bool
-canonicalCode m = onlyIf (leb (codeLength m) codeLimit) (zeros (part (2 + codeLength m) recordsAt m))
+canonicalCode m = onlyIf (leb (codeLength m) codeLimit) (allZero (part (2 + codeLength m) recordsAt m))
 
 -- ---- a record's bytes: status, place, two counts, slots, stack, environment
 
@@ -59,13 +60,13 @@ canonicalRegisters p =
     (leb (getD p 3 0) stackDepth
     ∷ leb (getD p 4 0) environmentDepth
     ∷ all slotFits (part slotsFrom stackFrom p)
-    ∷ zeros (part (stackFrom + valueSize * getD p 3 0) environmentFrom p)
-    ∷ zeros (part (environmentFrom + valueSize * getD p 4 0) recordSize p)
+    ∷ allZero (part (stackFrom + valueSize * getD p 3 0) environmentFrom p)
+    ∷ allZero (part (environmentFrom + valueSize * getD p 4 0) recordSize p)
     ∷ [])
 
 -- free, all of it is zero; else running or waiting
 unfoldable pub canonicalRecord : List ℕ → Bool
-canonicalRecord p = either (eqb (getD p 0 0) 0) (zeros p) (onlyIf (leb (getD p 0 0) 2) (canonicalRegisters p))
+canonicalRecord p = either (eqb (getD p 0 0) 0) (allZero p) (onlyIf (leb (getD p 0 0) 2) (canonicalRegisters p))
 
 -- ---- an end: whether it is free, its partner, its count and its queue's bytes
 
@@ -105,11 +106,11 @@ canonicalCells (c ∷ cs) = either (isDatum c) (canonicalCells cs) (onlyIf (isLa
 -- an end in use: the count is within its limit, the cells in use are items, and what stands behind them is zero
 unfoldable pub canonicalQueue : (count : ℕ) → List ℕ → Bool
 canonicalQueue k bytes =
-    allTrue (leb k queueDepth ∷ canonicalCells (take k (cellsIn bytes)) ∷ zeros (part (cellSize * k) queueSize bytes) ∷ [])
+    allTrue (leb k queueDepth ∷ canonicalCells (take k (cellsIn bytes)) ∷ allZero (part (cellSize * k) queueSize bytes) ∷ [])
 
 -- a free end: all of it is zero
 unfoldable pub canonicalEnd : (free : Bool) (partner count : ℕ) → List ℕ → Bool
-canonicalEnd true m k bytes = allTrue (eqb m 0 ∷ eqb k 0 ∷ zeros bytes ∷ [])
+canonicalEnd true m k bytes = allTrue (eqb m 0 ∷ eqb k 0 ∷ allZero bytes ∷ [])
 canonicalEnd false m k bytes = canonicalQueue k bytes
 
 -- ---- the memory

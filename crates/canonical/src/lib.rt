@@ -20,12 +20,12 @@ use records::record_is_canonical;
 use rules::CODE_LIMIT;
 use rules::END_COUNT;
 use rules::RECORD_COUNT;
+use unused::all_zero;
 use words::get16;
 use words::get64;
-use zeros::all_zero;
 
 pub mod places; // places.rt: where the parts of the state memory stand
-mod zeros; // zeros.rt: bytes that must all be zero
+mod unused; // unused.rt: bytes not in use, which must all be zero
 mod records; // records.rt: a record's bytes
 mod queues; // queues.rt: an end's bytes
 

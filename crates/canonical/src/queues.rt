@@ -8,7 +8,7 @@ ghost use Rattle.canonical.specs.Canonical.{lastFits, isDatum, isLast, c
 use crate::places::CELL_SIZE;
 use crate::places::QUEUE_SIZE;
 use crate::places::wide;
-use crate::zeros::all_zero;
+use crate::unused::all_zero;
 use rules::END_COUNT;
 use rules::QUEUE_DEPTH;
 use rules::RECORD_COUNT;

@@ -10,7 +10,7 @@ use crate::places::SLOTS_FROM;
 use crate::places::STACK_FROM;
 use crate::places::VALUE_SIZE;
 use crate::places::wide;
-use crate::zeros::all_zero;
+use crate::unused::all_zero;
 use rules::END_COUNT;
 use rules::ENVIRONMENT_DEPTH;
 use rules::STACK_DEPTH;

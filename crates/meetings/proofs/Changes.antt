@@ -1,4 +1,5 @@
--- The changes that a step at an end makes, one after the other: heads removed, ends freed. Assumes nothing.
+-- The changes that a step at an end makes, one after the other, and what a sound state says of the ends and of the new record that they are
+-- about. Assumes nothing.
 use mathlib.Core.Path.{_≡_, refl, sym, ap, _∙_, subst}
 use mathlib.Core.Logic.{_≢_}
 use mathlib.Core.Bool.{Bool, true, false}

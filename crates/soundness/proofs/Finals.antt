@@ -6,19 +6,20 @@ use mathlib.Core.List.{List, [], _∷_}
 use Prim.Native.Nat.{ℕ, zero, suc, _+_, _-_, _*_, _/_, _%_, _≤_, _<_}
 use native.Mathlib.Nat.{suc-inj}
 use native.Mathlib.Omega.{arith}
-use lib.ListN.{length, getD, take, drop}
+use lib.ListN.{length, getD, take}
 use lib.Seq.{length-take-le, getD-take}
-use lib.Dec.{eqb, leb, ltb}
+use lib.Dec.{eqb, ltb}
 use borrow.Author.Tests.{eqb-true, leb-true, ltb-true}
 use Rattle.rules.specs.Limits.{recordCount, endCount, queueDepth}
 use Rattle.rules.specs.Bytes.{numberAt}
 use Rattle.rules.specs.State.{Last, split-item, close-item, wait-item, endAt, lastOf}
 use Rattle.rules.specs.EndStep.{onlyIf}
 use Rattle.rules.specs.SoundTest.{lastWithin}
-use Rattle.rules.specs.Layout.{cellSize, queueSize, partnersAt, countsAt, queuesAt, stateSize, Queue, queue, cellKind, viewCell, viewCells, viewQueue, view}
+use Rattle.rules.specs.Layout.{cellSize, queueSize, partnersAt, countsAt, queuesAt, queue, cellKind, viewCell, viewCells, viewQueue, view}
 use Rattle.rules.proofs.TestLaws.{true-is-not-false, left-of, right-of, all-true-read}
 use Rattle.words.proofs.Numbers.{number-in}
-use Rattle.canonical.specs.Canonical.{either, freeIn, queuePart, cellsIn, datumFits, lastFits, isDatum, isLast, canonicalCells, canonicalQueue, canonicalEnd, endTest}
+use Rattle.canonical.specs.Canonical.{either, freeIn, queuePart, cellsIn, datumFits, lastFits, isDatum, isLast, canonicalCells}
+use Rattle.canonical.specs.Canonical.{canonicalQueue, canonicalEnd, endTest}
 use Rattle.canonical.proofs.EndBytes.{length-cells}
 use Rattle.canonical.proofs.Cells.{datum-kind, cell-at}
 use Rattle.soundness.specs.Lasts.{isItem, lastIn}

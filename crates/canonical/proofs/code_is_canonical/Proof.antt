@@ -4,7 +4,7 @@ use Prim.Native.Nat.{ℕ, _+_}
 use borrow.Author.Tests.{lt-leb, le-leb}
 use Rattle.rules.specs.Limits.{codeLimit}
 use Rattle.rules.specs.Layout.{recordsAt}
-use Rattle.canonical.specs.Canonical.{part, zeros, codeLength, canonicalCode}
+use Rattle.canonical.specs.Canonical.{part, allZero, codeLength, canonicalCode}
 use borrow.Author.Needs.{needs}
 use Rattle.canonical.proofs.code_is_canonical.Statement.{statement}
 use Rattle.canonical.proofs.code_is_canonical.Tie as tie
@@ -44,7 +44,7 @@ returns-2 c =
     let at-get16 = at-if1 .before in
     let m = at-get16 .before .before .args .m .now in
     let n = at-get16 .get16 .ensures in
-    c .all-zero .ensures ∙ ap (λ (k : ℕ). zeros (part (2 + k) recordsAt m)) n
+    c .all-zero .ensures ∙ ap (λ (k : ℕ). allZero (part (2 + k) recordsAt m)) n
     ∙ sym (rw (le-leb (codeLength m) codeLimit (rw n at (at-if1 .if1 .left))))
 
 pub code-is-canonical-spec : {M : Type 1} → statement M

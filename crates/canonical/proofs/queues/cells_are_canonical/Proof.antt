@@ -41,7 +41,8 @@ returns c =
     let i = at-loop .loop .i in
     let other = sym (at-is-datum .is-datum .ensures) ∙ not-true (at-is-datum .is-datum .result) (at-if1 .if1 .taken) in
     sym (at-loop .loop .inv .1
-    ∙ turn-stop (a .queue .now) (a .count) (at-loop .before .before .pre .1) i (omega arith) (at-get64 .get64 .ensures) other (c .if2 .taken))
+    ∙ turn-stop (a .queue .now) (a .count) (at-loop .before .before .pre .1) i (omega arith) (at-get64 .get64 .ensures)
+    other (c .if2 .taken))
 
 is-last-requires : tie.Need-is-last-requires Inv-loop μ-loop
 is-last-requires c κs = search needs
@@ -58,7 +59,8 @@ returns-2 c =
     let other = sym (at-is-datum .is-datum .ensures) ∙ not-true (at-is-datum .is-datum .result) (at-if1 .if1 .taken) in
     c .is-last .ensures
     ∙ sym (at-loop .loop .inv .1
-    ∙ turn-end (a .queue .now) (a .count) (at-loop .before .before .pre .1) i (omega arith) (at-get64 .get64 .ensures) other (at-if2 .if2 .left))
+    ∙ turn-end (a .queue .now) (a .count) (at-loop .before .before .pre .1) i (omega arith) (at-get64 .get64 .ensures)
+    other (at-if2 .if2 .left))
 
 add-i : tie.Need-add-i Inv-loop μ-loop
 add-i c = search needs

@@ -3,7 +3,7 @@ use mathlib.Core.Path.{sym, _∙_}
 use mathlib.Core.List.{[], _∷_}
 use lib.Dec.{eqb}
 use borrow.Author.Tests.{eq-eqb, ne-eqb, not-true, not-false}
-use Rattle.canonical.specs.Canonical.{zeros, canonicalEnd}
+use Rattle.canonical.specs.Canonical.{allZero, canonicalEnd}
 use Rattle.canonical.proofs.Tests.{false-at, last-decides}
 use borrow.Author.Needs.{needs}
 use Rattle.canonical.proofs.queues.end_is_canonical.Statement.{statement}
@@ -49,7 +49,7 @@ returns-4 c =
     let partner = eq-eqb (a .partner) 0 (at-if2 .if2 .left) in
     let count = eq-eqb (a .count) 0 (at-if3 .if3 .left) in
     c .all-zero .ensures
-    ∙ sym (rw free (last-decides (eqb (a .partner) 0 ∷ eqb (a .count) 0 ∷ []) (zeros (a .queue .now)) (partner, (count, tt))))
+    ∙ sym (rw free (last-decides (eqb (a .partner) 0 ∷ eqb (a .count) 0 ∷ []) (allZero (a .queue .now)) (partner, (count, tt))))
 
 pub end-is-canonical-spec : {M : Type 1} → statement M
 end-is-canonical-spec =

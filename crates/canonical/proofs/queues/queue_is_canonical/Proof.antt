@@ -7,7 +7,7 @@ use lib.Dec.{leb}
 use borrow.Author.Tests.{lt-leb, le-leb, not-true, not-false}
 use Rattle.rules.specs.Limits.{queueDepth}
 use Rattle.rules.specs.Layout.{cellSize, queueSize}
-use Rattle.canonical.specs.Canonical.{part, zeros, cellsIn, canonicalCells, canonicalQueue}
+use Rattle.canonical.specs.Canonical.{part, allZero, cellsIn, canonicalCells, canonicalQueue}
 use Rattle.canonical.proofs.Tests.{false-at, last-decides}
 use borrow.Author.Needs.{needs}
 use Rattle.canonical.proofs.queues.queue_is_canonical.Statement.{statement}
@@ -68,9 +68,9 @@ returns-3 c =
     let cells = sym (at-cells .cells-are-canonical .ensures ∙ counted bytes n)
     ∙ not-false (at-cells .cells-are-canonical .result) (at-if2 .if2 .left) in
     c .all-zero .ensures
-    ∙ ap (λ (k : ℕ). zeros (part (cellSize * k) queueSize bytes)) n
+    ∙ ap (λ (k : ℕ). allZero (part (cellSize * k) queueSize bytes)) n
     ∙ sym (last-decides (leb (a .count) queueDepth ∷ canonicalCells (take (a .count) (cellsIn bytes)) ∷ [])
-    (zeros (part (cellSize * a .count) queueSize bytes)) (few, (cells, tt)))
+    (allZero (part (cellSize * a .count) queueSize bytes)) (few, (cells, tt)))
 
 pub queue-is-canonical-spec : {M : Type 1} → statement M
 queue-is-canonical-spec =

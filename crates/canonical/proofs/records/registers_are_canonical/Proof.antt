@@ -8,25 +8,20 @@ use borrow.Author.Tests.{lt-leb, le-leb, not-true, not-false}
 use Rattle.rules.specs.Limits.{stackDepth, environmentDepth}
 use Rattle.rules.specs.SoundTest.{all}
 use Rattle.rules.specs.Layout.{valueSize, recordSize}
-use Rattle.canonical.specs.Canonical.{part, zeros, slotsFrom, stackFrom, environmentFrom, slotFits, canonicalRegisters}
+use Rattle.canonical.specs.Canonical.{part, allZero, slotsFrom, stackFrom, environmentFrom, slotFits, canonicalRegisters}
 use Rattle.canonical.proofs.Tests.{false-at, last-decides}
 use borrow.Author.Needs.{needs}
 use Rattle.canonical.proofs.records.registers_are_canonical.Statement.{statement}
 use Rattle.canonical.proofs.records.registers_are_canonical.Tie as tie
-use Rattle.canonical.proofs.records.registers_are_canonical.Reads as reads
-use Rattle.canonical.proofs.records.registers_are_canonical.Lts as lts
-use Rattle.canonical.proofs.places.wide.Reads as wide-reads
-use Rattle.canonical.proofs.records.slots_fit.Reads as slots-fit-reads
-use Rattle.canonical.proofs.zeros.all_zero.Reads as all-zero-reads
 
 -- the count that was read is the record's
 stack-behind : (p : List ℕ) {n : ℕ} → n ≡ getD p 3 0
-    → zeros (part (stackFrom + valueSize * n) environmentFrom p) ≡ zeros (part (stackFrom + valueSize * getD p 3 0) environmentFrom p)
-stack-behind p e = ap (λ (k : ℕ). zeros (part (stackFrom + valueSize * k) environmentFrom p)) e
+    → allZero (part (stackFrom + valueSize * n) environmentFrom p) ≡ allZero (part (stackFrom + valueSize * getD p 3 0) environmentFrom p)
+stack-behind p e = ap (λ (k : ℕ). allZero (part (stackFrom + valueSize * k) environmentFrom p)) e
 
 environment-behind : (p : List ℕ) {n : ℕ} → n ≡ getD p 4 0
-    → zeros (part (environmentFrom + valueSize * n) recordSize p) ≡ zeros (part (environmentFrom + valueSize * getD p 4 0) recordSize p)
-environment-behind p e = ap (λ (k : ℕ). zeros (part (environmentFrom + valueSize * k) recordSize p)) e
+    → allZero (part (environmentFrom + valueSize * n) recordSize p) ≡ allZero (part (environmentFrom + valueSize * getD p 4 0) recordSize p)
+environment-behind p e = ap (λ (k : ℕ). allZero (part (environmentFrom + valueSize * k) recordSize p)) e
 
 shared-slice-read-wide : tie.Need-shared-slice-read-wide
 shared-slice-read-wide c = search needs
@@ -138,8 +133,8 @@ returns-5 c =
     ∙ not-false (at-all-zero .all-zero .result) (at-if4 .if4 .left) in
     c .all-zero2 .ensures ∙ environment-behind p (at-wide2 .wide2 .ensures)
     ∙ sym (last-decides (leb (getD p 3 0) stackDepth ∷ leb (getD p 4 0) environmentDepth ∷ all slotFits (part slotsFrom stackFrom p)
-    ∷ zeros (part (stackFrom + valueSize * getD p 3 0) environmentFrom p) ∷ [])
-    (zeros (part (environmentFrom + valueSize * getD p 4 0) recordSize p)) (few, (few-bound, (slots, (stack, tt)))))
+    ∷ allZero (part (stackFrom + valueSize * getD p 3 0) environmentFrom p) ∷ [])
+    (allZero (part (environmentFrom + valueSize * getD p 4 0) recordSize p)) (few, (few-bound, (slots, (stack, tt)))))
 
 pub registers-are-canonical-spec : {M : Type 1} → statement M
 registers-are-canonical-spec =

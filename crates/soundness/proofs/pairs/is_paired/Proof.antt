@@ -1,5 +1,5 @@
 -- `is_paired` follows the end to its partner and back. Assumes nothing.
-use mathlib.Core.Path.{_≡_, sym, ap, _∙_}
+use mathlib.Core.Path.{sym, ap, _∙_}
 use Prim.Native.Nat.{ℕ}
 use lib.Dec.{eqb}
 use Rattle.soundness.proofs.Partners.{free-is, paired-free, paired-itself, paired-over, paired-to-free, paired-back}
