@@ -26,7 +26,7 @@ const BATCH: u64 = 100;
 /// From so many scripts on, a run must reach everything.
 const FULL: u64 = 2_000;
 
-/// Of so many scripts, the image of one is also given to the printing program.
+/// Of so many scripts, the image of one is also given to the printing program, and a damaged one.
 const TRACED: u64 = 20;
 
 /// What the run is to do.
@@ -95,45 +95,50 @@ fn compare(plan: &Plan) -> Result<String, String> {
     }
 }
 
-/// Gives a batch of scripts to one process of the console, and to the interpreter.
+/// Gives a batch of scripts to the interpreter, and to one process of the console.
 fn compare_consoles(plan: &Plan, scripts: &[(u64, Script)], counts: &mut Counts) -> Result<(), String> {
-    let input = scripts.iter().flat_map(|(_, script)| &script.lines).flat_map(|line| [line, "\n"]).flat_map(str::bytes).collect();
-    let given = programs::output(&plan.console, input).map_err(|error| format!("{}: {error}", plan.console))?;
-    let mut rest = &given[..];
     let mut console = Console::default();
-    for (number, script) in scripts {
-        for (at, line) in (1..).zip(&script.lines) {
-            let expected = counts.answer(&mut console, line);
+    let mut answers = |script: &Script| script.lines.iter().map(|line| counts.answer(&mut console, line)).collect();
+    let expected: Vec<Vec<Vec<u8>>> = scripts.iter().map(|(_, script)| answers(script)).collect();
+    let length: usize = expected.iter().flatten().map(Vec::len).sum();
+    let input = scripts.iter().flat_map(|(_, script)| &script.lines).flat_map(|line| [line, "\n"]).flat_map(str::bytes).collect();
+    let given = output(&plan.console, input, length)?;
+    let mut rest = &given[..];
+    for ((number, script), expected) in scripts.iter().zip(&expected) {
+        for ((at, line), expected) in (1..).zip(&script.lines).zip(expected) {
             match rest.strip_prefix(&expected[..]) {
                 Some(further) => rest = further,
                 None => {
                     let file = keep(plan, *number, "script", (script.lines.join("\n") + "\n").as_bytes())?;
-                    let difference = first_difference(&expected, rest);
-                    return Err(format!(
-                        "seed {}, script {number}, line {at}: {}\n{difference}\nthe script is {file}",
-                        plan.seed,
-                        cut(line)
-                    ));
+                    let (seed, line, difference) = (plan.seed, cut(line), first_difference(expected, rest));
+                    return Err(format!("seed {seed}, script {number}, line {at}: {line}\n{difference}\nthe script is {file}"));
                 }
             }
         }
     }
-    if rest.is_empty() { Ok(()) } else { Err(format!("seed {}: answers to no command: {}", plan.seed, shown(rest))) }
+    if rest.is_empty() { Ok(()) } else { Err(format!("seed {}: more than was asked for: {}", plan.seed, shown(rest))) }
 }
 
 /// Gives images to the printing program, one process each.
 fn compare_traces(plan: &Plan, command: &str, scripts: &[(u64, Script)]) -> Result<(), String> {
     for (number, script) in scripts.iter().filter(|(number, _)| number % TRACED == 0) {
-        let given = programs::output(command, script.image.clone()).map_err(|error| format!("{command}: {error}"))?;
-        let mut expected = Vec::new();
-        printing::trace(&script.image, &mut expected).map_err(|error| error.to_string())?;
-        if given != expected {
-            let file = keep(plan, *number, "image", &script.image)?;
-            let difference = first_difference(&expected, &given);
-            return Err(format!("seed {}, script {number}, trace of its image\n{difference}\nthe image is {file}", plan.seed));
+        for image in [&script.image, &script.damaged] {
+            let mut expected = Vec::new();
+            printing::trace(image, &mut expected).map_err(|error| error.to_string())?;
+            let given = output(command, image.clone(), expected.len())?;
+            if given != expected {
+                let file = keep(plan, *number, "image", image)?;
+                let (seed, difference) = (plan.seed, first_difference(&expected, &given));
+                return Err(format!("seed {seed}, script {number}, trace of an image\n{difference}\nthe image is {file}"));
+            }
         }
     }
     Ok(())
+}
+
+/// What a command writes, up to some bytes more than it should.
+fn output(command: &str, input: Vec<u8>, length: usize) -> Result<Vec<u8>, String> {
+    programs::output(command, input, length + 1_000).map_err(|error| format!("{command}: {error}"))
 }
 
 /// Keeps what led to a difference in a file.

@@ -9,11 +9,11 @@ use std::time::Duration;
 /// How long a program may take for one input.
 const PATIENCE: Duration = Duration::from_secs(120);
 
-/// All that a command, given as to a shell, writes on this input; it is ended if it takes too long.
-pub fn output(command: &str, input: Vec<u8>) -> io::Result<Vec<u8>> {
+/// What a command, given as to a shell, writes on this input, at most `limit` bytes of it; it is ended if it takes too long.
+pub fn output(command: &str, input: Vec<u8>, limit: usize) -> io::Result<Vec<u8>> {
     let mut child =
         Command::new("sh").args(["-c", &format!("exec {command}")]).stdin(Stdio::piped()).stdout(Stdio::piped()).spawn()?;
-    let (Some(mut to), Some(mut from)) = (child.stdin.take(), child.stdout.take()) else {
+    let (Some(mut to), Some(from)) = (child.stdin.take(), child.stdout.take()) else {
         return Err(io::Error::other("no pipes"));
     };
     // A program that ends early does not read all of it.
@@ -21,7 +21,7 @@ pub fn output(command: &str, input: Vec<u8>) -> io::Result<Vec<u8>> {
     let (sender, receiver) = mpsc::channel();
     let reader = thread::spawn(move || {
         let mut given = Vec::new();
-        let read = from.read_to_end(&mut given);
+        let read = from.take(limit as u64).read_to_end(&mut given);
         _ = sender.send(());
         read.map(|_| given)
     });

@@ -8,10 +8,12 @@ use crate::memories::{self, SIZE};
 use crate::methods;
 use crate::random::Random;
 
-/// Script `number` of a seed: the image that it begins with, and its commands.
+/// A script, and images that go with it.
 pub struct Script {
     /// The image of the first load.
     pub image: Vec<u8>,
+    /// Another image, most often damaged, for the printing program.
+    pub damaged: Vec<u8>,
     /// The commands, one a line.
     pub lines: Vec<String>,
 }
@@ -25,8 +27,10 @@ impl Script {
                 break image;
             }
         };
+        let code = methods::code(&mut random);
+        let damaged = images::damaged(&mut random, &code);
         let lines = vec![format!("load {}", hex(&image))];
-        let mut script = Script { image, lines };
+        let mut script = Script { image, damaged, lines };
         match random.below(16) {
             0..=5 => script.asks_and_runs(&mut random),
             6 => script.records_first(&mut random),
