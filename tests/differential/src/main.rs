@@ -3,6 +3,7 @@
 //! `differential --console COMMAND [--trace COMMAND] [--scripts N] [--seed N]`; the README says more.
 
 mod counts;
+mod damages;
 mod images;
 mod memories;
 mod methods;
@@ -24,7 +25,7 @@ use scripts::Script;
 const BATCH: u64 = 100;
 
 /// From so many scripts on, a run must reach everything.
-const FULL: u64 = 2_000;
+const FULL: u64 = 4_000;
 
 /// Of so many scripts, the image of one is also given to the printing program, and a damaged one.
 const TRACED: u64 = 20;

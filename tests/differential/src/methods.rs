@@ -80,20 +80,21 @@ fn requests(random: &mut Random) -> String {
     text + "hput 0 3\nhalt 0\n"
 }
 
-/// So many processes that no record may be free when a split meets its fork.
+/// So many processes that no record may be free when a split meets its fork. The last one sends word back to the first, which then
+/// splits; on the way every channel is closed, so that there are ends enough, but the processes stay.
 fn crowd(random: &mut Random) -> String {
     let members = random.pick(&[27, 30, 30, 30, 31]);
     let mut text = String::from("plug 0, {} first, {} taker\ntaker: fork 0, 0 {} one, 1 {} two\none: halt 0\ntwo: halt 1\n");
-    text += "first: plug 1, {0} hold, {} grow1\nhold: get 1\nstore\nsplit 0 0 2\nclose 0\nclose 2\nhalt 1\n";
+    text += "first: plug 1, {0} hold, {} grow1\nhold: get 1\nstore\nclose 1\nsplit 0 0 2\nrun stay 0 0 2\n";
     // Member i holds the channel to the one before in slot 1 if i is odd, else in slot 0, and makes the next in the other slot.
     for i in 1..members {
         let (before, after) = (i % 2, 1 - i % 2);
         text += &format!("grow{i}: plug {after}, {{{before}}} back{before}, {{}} grow{}\n", i + 1);
     }
     let before = members % 2;
-    text += &format!("grow{members}: cst 1\nput {before}\nget {before}\nstore\nhalt {before}\n");
-    text += "back0: get 1\nput 0\nget 0\nput 1\nclose 0\nhalt 1\nback1: get 0\nput 1\nget 1\nput 0\nclose 1\nhalt 0";
-    text
+    text += &format!("grow{members}: cst 1\nput {before}\nclose {before}\nrun stay 0\n");
+    text += "back0: get 1\nput 0\nclose 0\nclose 1\nrun stay 0\nback1: get 0\nput 1\nclose 1\nclose 0\nrun stay 0\n";
+    text + "stay: put 0"
 }
 
 /// A sender and a receiver, and between them processes that make their two partners partners of each other.

@@ -3,6 +3,7 @@
 //! Every script begins with a load that is done, so that it does not depend on the one before it, and ends with a dump and peeks
 //! that show the whole memory.
 
+use crate::damages;
 use crate::images;
 use crate::memories::{self, SIZE};
 use crate::methods;
@@ -121,7 +122,7 @@ impl Script {
         let memory = memories::sound(random);
         self.poke(0, &memory);
         for _ in 0..random.between(5, 25) {
-            let changes = memories::damage(random, &memory);
+            let changes = damages::damage(random, &memory);
             for (at, new) in &changes {
                 self.poke(*at, new);
             }
