@@ -35,15 +35,14 @@ pub fn damaged(random: &mut Random, code: &[u8]) -> Vec<u8> {
     image
 }
 
-/// Writes the other check whose sum folds to the same: FF FF for 00 00 and the reverse; else a wrong one.
+/// Changes the last word of a block's data so that its check is 00 00, and writes that or FF FF, which folds to the same. (Where the
+/// word was in use its sum may carry; then both are wrong.)
 fn swap_check(random: &mut Random, image: &mut [u8]) {
     let block = random.below(image.len() / BLOCK) * BLOCK;
-    // Make the check 00 00 where the data can be changed so: then FF FF is the wrong one.
     let data = &mut image[block..block + DATA];
     let was = u16::from_be_bytes(check(data));
     let last = u16::from_be_bytes([data[DATA - 2], data[DATA - 1]]);
-    let (filled, _) = last.overflowing_add(was);
-    data[DATA - 2..].copy_from_slice(&filled.to_be_bytes());
+    data[DATA - 2..].copy_from_slice(&last.wrapping_add(was).to_be_bytes());
     image[block + DATA..block + BLOCK].fill(random.pick(&[0xFF, 0x00]));
 }
 

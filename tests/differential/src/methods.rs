@@ -30,7 +30,7 @@ pub fn sound_code(random: &mut Random) -> Vec<u8> {
     assembler::code(&text).expect("the words are the assembler's")
 }
 
-/// Processes in a ring of channels, each of which takes a number, adds to it and passes it on, for ever.
+/// Processes in a chain, which pass a number along it and back for ever, and add to it on the way.
 fn chain(random: &mut Random) -> String {
     let processes = random.between(2, 31);
     let step = random.value();
@@ -120,7 +120,7 @@ fn forwarders(random: &mut Random) -> String {
     text + &format!("cst 5\nput {own}\nhalt {own}")
 }
 
-/// Two processes that split until no four ends are free, and a third that may take what one of them offers.
+/// Two processes that split, close and split again until no four ends are free, and fork with sets that are not theirs.
 fn splits(random: &mut Random) -> String {
     let mut text = String::from("plug 0, {} one, {} other\n");
     for name in ["one", "other"] {
