@@ -6,7 +6,7 @@
 use crate::ends::{FreeEnds, Item};
 use crate::memory::{self, STATE_SIZE};
 use crate::refusal::Refusal;
-use crate::run::Run;
+use crate::run::{Run, Step};
 use crate::state::State;
 
 /// Fills the memory with the start state and the code of an image; 24, 20 to 23.
@@ -29,7 +29,12 @@ pub fn ask_end(memory: &mut [u8], number: u32) -> Result<Item, Refusal> {
 
 /// A run; 24, 1, 25.
 pub fn run(memory: &mut [u8], budget: u16, start: u32) -> Result<Run, Refusal> {
-    change(memory, |state| state.run(budget, start))
+    run_watched(memory, budget, start, |_| {})
+}
+
+/// The same run, each step shown to `watch`.
+pub fn run_watched(memory: &mut [u8], budget: u16, start: u32, watch: impl FnMut(Step)) -> Result<Run, Refusal> {
+    change(memory, |state| state.run_watched(budget, start, watch))
 }
 
 /// How many ends are free, and the lowest free end; 24, 1.

@@ -9,10 +9,33 @@ use crate::image::{self, BLOCK, BLOCKS};
 use crate::memory;
 use crate::records::Status;
 use crate::refusal::Refusal;
+use crate::run::{Step, Verdict};
 use crate::state::State;
 
 /// The characters that a line may have.
 pub const LINE: usize = 40_000;
+
+/// What a command did, for those who count.
+#[derive(Clone, Copy, Debug, PartialEq, Eq)]
+pub enum Event {
+    /// A record did the instruction of this name.
+    Did(&'static str),
+    /// At an end this value, handle, split or close was taken.
+    Took(Item),
+    /// A run came out so.
+    Came(Verdict),
+    /// A call was refused.
+    Refused(Refusal),
+}
+
+impl From<Step> for Event {
+    fn from(step: Step) -> Self {
+        match step {
+            Step::Record(_, name) => Event::Did(name),
+            Step::End(_, item) => Event::Took(item),
+        }
+    }
+}
 
 /// A command that is understood.
 #[derive(Clone, Debug, PartialEq, Eq)]
@@ -87,34 +110,58 @@ impl Default for Console {
 }
 
 impl Console {
+    /// The state memory.
+    pub fn memory(&self) -> &[u8] {
+        &self.memory
+    }
+
     /// The answer to a line, each of its own lines ended.
     pub fn answer(&mut self, line: &[u8]) -> Vec<u8> {
+        self.answer_watched(line, |_| {})
+    }
+
+    /// The same answer, all that the command did shown to `watch`.
+    pub fn answer_watched(&mut self, line: &[u8], mut watch: impl FnMut(Event)) -> Vec<u8> {
         match Command::of(line) {
-            Some(command) => (self.obey(command) + "\n").into_bytes(),
+            Some(command) => {
+                let answer = self.obey(command, &mut watch).unwrap_or_else(|(words, refusal)| {
+                    watch(Event::Refused(refusal));
+                    format!("{words} {refusal}")
+                });
+                (answer + "\n").into_bytes()
+            }
             None => [b"? ", first_word(line), b"\n"].concat(),
         }
     }
 
-    /// Does what a command says: the answer, its last line not ended.
-    fn obey(&mut self, command: Command) -> String {
+    /// Does what a command says: the answer, its last line not ended. If a call is refused the answer is these words and the number.
+    fn obey(&mut self, command: Command, mut watch: impl FnMut(Event)) -> Result<String, (String, Refusal)> {
         let memory = &mut self.memory;
-        match command {
-            Command::Load(image) => format!("load {}", number_of(calls::load(memory, &image))),
-            Command::Write(code) => answer_write(&code),
-            Command::Record(n) => format!("R {n}: {}", number_of(calls::ask_record(memory, n))),
-            Command::End(n) => format!("E {n}: {}", number_of(calls::ask_end(memory, n))),
-            Command::Run(budget, start) => match calls::run(memory, budget, start) {
-                Ok(run) => format!("run: 0 {} {} {}", run.steps, run.next, run.verdict),
-                Err(refusal) => format!("run: {refusal}"),
-            },
-            Command::Free => match calls::free_ends(memory) {
-                Ok(free) => format!("free: {} {}", free.count, free.lowest),
-                Err(refusal) => format!("free: refused {refusal}"),
-            },
-            Command::Dump => match calls::view(memory) {
-                Ok(state) => dump(&state),
-                Err(refusal) => format!("dump: refused {refusal}"),
-            },
+        Ok(match command {
+            Command::Load(image) => {
+                calls::load(memory, &image).map_err(|refusal| ("load".to_string(), refusal))?;
+                "load 0".to_string()
+            }
+            Command::Write(code) => written(&code).map_err(|refusal| ("write".to_string(), refusal))?,
+            Command::Record(n) => {
+                watch(Event::Did(calls::ask_record(memory, n).map_err(|refusal| (format!("R {n}:"), refusal))?));
+                format!("R {n}: 0")
+            }
+            Command::End(n) => {
+                watch(Event::Took(calls::ask_end(memory, n).map_err(|refusal| (format!("E {n}:"), refusal))?));
+                format!("E {n}: 0")
+            }
+            Command::Run(budget, start) => {
+                let run = calls::run_watched(memory, budget, start, |step| watch(step.into()));
+                let run = run.map_err(|refusal| ("run:".to_string(), refusal))?;
+                watch(Event::Came(run.verdict));
+                format!("run: 0 {} {} {}", run.steps, run.next, run.verdict)
+            }
+            Command::Free => {
+                let free = calls::free_ends(memory).map_err(|refusal| ("free: refused".to_string(), refusal))?;
+                format!("free: {} {}", free.count, free.lowest)
+            }
+            Command::Dump => dump(&calls::view(memory).map_err(|refusal| ("dump: refused".to_string(), refusal))?),
             Command::Peek(at, count) => match at.checked_add(count).and_then(|end| memory.get(at..end)) {
                 Some(found) => hex(found),
                 None => "peek: out of range".to_string(),
@@ -126,7 +173,7 @@ impl Console {
                 }
                 None => "poke: out of range".to_string(),
             },
-        }
+        })
     }
 }
 
@@ -153,17 +200,11 @@ fn first_word(line: &[u8]) -> &[u8] {
     line.split(|&byte| byte == b' ').next().and_then(|word| word.chunks(LINE).next()).unwrap_or_default()
 }
 
-/// Document 01's number of an answer, 0 for done.
-fn number_of<T>(answer: Result<T, Refusal>) -> u8 {
-    answer.map_or_else(Refusal::number, |_| 0)
-}
-
-fn answer_write(code: &[u8]) -> String {
+/// The answer to a write that is done, or 26.
+fn written(code: &[u8]) -> Result<String, Refusal> {
     let mut output = [0; BLOCKS * BLOCK];
-    match image::write(code, &mut output) {
-        Ok(length) => format!("write 0\n{}", hex(output.get(..length).unwrap_or_default())),
-        Err(refusal) => format!("write {refusal}"),
-    }
+    let length = image::write(code, &mut output)?;
+    Ok(format!("write 0\n{}", hex(output.get(..length).unwrap_or_default())))
 }
 
 /// A state in words.
@@ -203,5 +244,5 @@ fn list<T: Display>(things: impl Iterator<Item = T>) -> String {
 
 /// Bytes in lower-case hex.
 fn hex(bytes: &[u8]) -> String {
-    bytes.iter().map(|byte| format!("{byte:02x}")).collect()
+    bytes.iter().flat_map(|byte| [byte >> 4, byte & 15]).filter_map(|digit| char::from_digit(digit.into(), 16)).collect()
 }

@@ -3,7 +3,10 @@
 mod common;
 
 use common::*;
-use interpreter::console::{Console, LINE, serve};
+use interpreter::console::{Console, Event, LINE, serve};
+use interpreter::ends::Item;
+use interpreter::refusal::Refusal;
+use interpreter::run::Verdict;
 
 /// What the console answers to a script.
 fn answers(script: &[u8]) -> Vec<u8> {
@@ -381,4 +384,32 @@ fn lines_at_random_are_answered() {
     let lines = script.iter().filter(|&&byte| byte == b'\n').count();
     let answered = answers(&script);
     assert!(answered.iter().filter(|&&byte| byte == b'\n').count() >= lines);
+}
+
+#[test]
+fn what_commands_did_is_shown() {
+    let mut console = Console::default();
+    let mut events = Vec::new();
+    let load = format!("load {}", hex(&image_of(&ONE_RUN)));
+    for line in [&load, "R 0", "run 3 0", "E 1", "E 1", "run 9 9", "run 1 96", "peek 0 0", "help"] {
+        console.answer_watched(line.as_bytes(), |event| events.push(event));
+    }
+    assert_eq!(console.memory().len(), SIZE);
+    use Event::*;
+    let expected = [
+        Did("plug"),
+        Did("cst"),
+        Did("get"),
+        Did("put"),
+        Came(Verdict::Spent),
+        Took(Item::Value(4)),
+        Refused(Refusal::QueueEmpty),
+        Did("halt"),
+        Did("store"),
+        Did("halt"),
+        Took(Item::Close),
+        Came(Verdict::Finished),
+        Refused(Refusal::StartPosition),
+    ];
+    assert_eq!(events, expected);
 }
