@@ -36,7 +36,7 @@ fn step_running(m: &mut [u8], lengths: &[u8; 256], r: Record) -> Reply
 pub fn step_record(m: &mut [u8], lengths: &[u8; 256], record: u32) -> Reply
     requires { ⌜ length (now m) ≡ stateSize ⌝ }
     requires { ⌜ SoundMemory (now m) × (now lengths ≡ lengthsOfRules) ⌝ }
-    ensures { λ x. ⌜ RecordStepped (now (m .entry)) record x (now (m .exit)) ⌝ }
+    ensures { λ x. ⌜ RecordStepped (now (m .entry)) «record» x (now (m .exit)) ⌝ }
 {
     if RECORD_COUNT as u32 <= record {
         return Reply::Refused(NO_RECORD);

@@ -3,9 +3,8 @@ use mathlib.Core.Path.{_≡_, refl, sym, ap, _∙_}
 use mathlib.Core.Bool.{Bool, true, false}
 use mathlib.Core.List.{List, [], _∷_}
 use Prim.Native.Nat.{ℕ}
-use native.Mathlib.Omega.{arith}
 use Rattle.rules.specs.State.{State, Registers as Process, RecordState, running, Item, recordAt, setRecord, endIn}
-use Rattle.rules.specs.Refusal.{Answer, refused, done, NoCause, unless}
+use Rattle.rules.specs.Refusal.{Answer, done, NoCause, unless}
 use Rattle.rules.specs.Instruction.{Instruction}
 use Rattle.rules.specs.Causes.{empty, ownCauses, sharedCauses, queueFull}
 use Rattle.rules.specs.RecordStep.{append, waits, lowestFree, after}
@@ -17,38 +16,22 @@ use Rattle.rules.specs.Numbers.{replyTo}
 use Rattle.rules.specs.Promise.{Promise}
 use Rattle.rules.specs.declared.Reply.{Reply}
 use Rattle.rules.specs.declared.Reply.the-variants.{Done, Refused}
-use Rattle.rules.proofs.Rows.{all-passed}
 use Rattle.keeping.specs.Demand3.{SoundMemory}
 use Rattle.keeping.proofs.LayoutLaws.{Sized}
 use Rattle.registers.specs.declared.Registers.{Registers}
 use Rattle.registers.specs.Registers.{registersOf, registersIn}
 use Rattle.ends.proofs.Changes.{sized-anew}
-use Rattle.causes.specs.Own.{ownAnswer, ownReply}
-use Rattle.causes.proofs.Shared.{own-refused, own-done}
+use Rattle.causes.specs.Own.{ownReply}
+use Rattle.causes.proofs.Shared.{refused-not-done, own-passed, own-refused, own-done}
 use Rattle.stepping.proofs.Steps.{refused-step, done-step, registers-ok, held-is}
 use Rattle.channels.specs.Appending.{shownBy, HoldsEnd, Runs, unlessFull, Appended, Waited}
 use Rattle.channels.specs.Splitting.{sharedAnswer, SharedStep}
 use Rattle.channels.proofs.Holding.{shown-within}
 
-abbrev isRefused : Reply → ℕ
-isRefused Done = 0
-isRefused (Refused n) = 1
-
-pub refused-not-done : {A : Type 0} {n : ℕ} → Refused n ≡ Done → A
-refused-not-done e = absurd (let z : _≡_ {A = ℕ} 1 0 = ap isRefused e in omega arith)
-
 pub sized-view : {m : List ℕ} → SoundMemory m → Sized (view m)
 sized-view s = record { records-sized = s .state-sound .S1 .record-count; ends-sized = s .state-sound .S1 .end-count }
 
 -- ---- the rows 5 to 11
-
--- where the reply is done, none of them holds
-passed-all : (g : Process) (i : Instruction) → ownReply g i ≡ Done → NoCause (ownCauses g i)
-passed-all g i e = all-passed (ownCauses g i) (done tt) tt (is-done (ownAnswer g i) e) .0
-  where
-    is-done : (a : Answer (Unit {0})) → replyTo a ≡ Done → a ≡ done tt
-    is-done (refused n) q = refused-not-done q
-    is-done (done tt) q = refl
 
 -- a step has begun: the registers x are loaded from record r of a sound memory, and `causes` replies of them for instruction i
 pub record Begun (m : List ℕ) (r : ℕ) (i : Instruction) (x : Registers) (reply : Reply) : Type 0 where
@@ -77,7 +60,7 @@ module _ {m : List ℕ} {r : ℕ} {i : Instruction} {x : Registers} (b : Begun m
       b .load-is (view m) (sized-view (b .sound)) within (b .sound .laid-out)
 
   pub shown-passed : NoCause (ownCauses (shownBy m r) i)
-  shown-passed = passed-all (shownBy m r) i (sym (b .reply-is (shownBy m r) (shown-within m (b .sound) r) loaded))
+  shown-passed = own-passed (shownBy m r) i (sym (b .reply-is (shownBy m r) (shown-within m (b .sound) r) loaded))
 
   pub holds-end : (c : ℕ) → ((g : Process) → NoCause (ownCauses g i) → empty c g ≡ false) → HoldsEnd m x c
   holds-end c named = record { owner = r; sound = b .sound; is-loaded = loaded; not-empty = named (shownBy m r) shown-passed }
@@ -91,7 +74,7 @@ module _ {m : List ℕ} {r : ℕ} {i : Instruction} {x : Registers} (b : Begun m
     runs-here c named = record {
       runs = is;
       is-held = held-is m (b .sound) r g is (b .load-is);
-      not-empty = named g (passed-all g i (sym here));
+      not-empty = named g (own-passed g i (sym here));
     }
 
     pub shared-left : (next : ℕ)
@@ -139,5 +122,6 @@ pub waited-step : {m : List ℕ} {r : ℕ} {g : Process} {c : ℕ} {reply : Repl
 waited-step w q = rw q (w .waited)
 
 pub shared-step : {m : List ℕ} {r next : ℕ} {g : Process} {i : Instruction} {reply : Reply} {left : List ℕ}
-    → SharedStep m r next g i reply left → {a : Answer State} → a ≡ sharedAnswer (view m) r next g i → Promise (replyTo a) (layoutOr m a) reply left
+    → SharedStep m r next g i reply left → {a : Answer State} → a ≡ sharedAnswer (view m) r next g i
+    → Promise (replyTo a) (layoutOr m a) reply left
 shared-step h q = rw q (h .shared)

@@ -24,8 +24,8 @@ pub fn put(m: &mut [u8], r: Record, c: Slot, next: u16) -> Reply
     if let Reply::Refused(n) = queue::append(m, held, c, Item::Value(popped.value)) {
         return Reply::Refused(n);
     }
-    let after = popped.registers;
-    registers::save_running(m, r, after.at(next));
+    let rest = popped.registers;
+    registers::save_running(m, r, rest.at(next));
     Reply::Done
 }
 
@@ -41,8 +41,8 @@ pub fn close(m: &mut [u8], r: Record, c: Slot, next: u16) -> Reply
     if let Reply::Refused(n) = queue::append(m, held, c, Item::Close) {
         return Reply::Refused(n);
     }
-    let after = held.empty_slot(c);
-    registers::save_running(m, r, after.at(next));
+    let emptied = held.empty_slot(c);
+    registers::save_running(m, r, emptied.at(next));
     Reply::Done
 }
 
