@@ -1,6 +1,5 @@
 // A record is asked to step: 2, 3, 4, or what its instruction says. A position is asked: the records come first, then the ends.
 ghost use mathlib.Core.Path.{_≡_};
-ghost use Prim.Native.Nat.{ℕ};
 ghost use lib.ListN.{length};
 ghost use Rattle.rules.specs.Instruction.{lengths as lengthsOfRules};
 ghost use Rattle.rules.specs.Layout.{stateSize};

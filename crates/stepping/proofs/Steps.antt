@@ -31,6 +31,12 @@ refused-step {m = m} n e = record { answer-is = ap replyTo (sym e); memory-is = 
 pub done-step : {a : Answer State} (m : List ℕ) {left : List ℕ} (st : State) → a ≡ done st → left ≡ layout st → Promise (replyTo a) (layoutOr m a) Done left
 done-step m st e q = record { answer-is = ap replyTo (sym e); memory-is = q ∙ ap (layoutOr m) (sym e) }
 
+-- ---- a sound memory
+
+-- it has its records and its ends
+pub memory-sized : (m : List ℕ) → SoundMemory m → Sized (view m)
+memory-sized m s = record { records-sized = s .state-sound .S1 .record-count; ends-sized = s .state-sound .S1 .end-count }
+
 -- ---- a running record of a sound memory
 
 module _ (m : List ℕ) (s : SoundMemory m) (r : ℕ) (g : Process) (is : recordAt (view m) r ≡ running g) where

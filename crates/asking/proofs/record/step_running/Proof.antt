@@ -1,60 +1,127 @@
+-- The place, the code, the decoder, and the instruction. Assumes nothing.
+use mathlib.Core.Path.{_≡_, sym, ap, _∙_, subst}
+use mathlib.Core.Option.{some}
+use mathlib.Core.List.{List}
+use Prim.Native.Nat.{ℕ}
 use borrow.Author.Needs.{needs}
+use Rattle.rules.specs.State.{State, RecordState}
+use Rattle.rules.specs.Refusal.{Answer}
+use Rattle.rules.specs.Instruction as rules
+use Rattle.rules.specs.Instruction.{decode}
+use Rattle.rules.specs.Layout.{view}
+use Rattle.rules.specs.Calls.{layoutOr}
+use Rattle.rules.specs.Numbers.{replyTo}
+use Rattle.rules.specs.Promise.{Promise}
+use Rattle.code.specs.Meaning.{meaning, instructionOf}
+use Rattle.registers.specs.Registers.{registersIn}
+use Rattle.stepping.proofs.Steps.{refused-step, in-range, sized}
+use Rattle.asking.proofs.Listing.{listed-in}
+use Rattle.asking.proofs.Answers.{no-instruction, an-instruction, next-fits}
 use Rattle.asking.proofs.record.step_running.Statement.{statement}
 use Rattle.asking.proofs.record.step_running.Tie as tie
-use Rattle.asking.proofs.record.step_running.Reads as reads
-use Rattle.asking.proofs.record.step_running.Lts as lts
-use Rattle.asking.proofs.dispatch.step_instruction.Reads as step-instruction-reads
-use Rattle.code.proofs.decode.Reads as decode-reads
-use Rattle.registers.proofs.place_of.Reads as place-of-reads
-use Rattle.stepping.proofs.code.Reads as code-reads
 
--- src/record.rt:28:17
 place-of-requires : tie.Need-place-of-requires
-place-of-requires c κs = ?
+place-of-requires c κs = let p = c .before .before .pre in (p .0, in-range _ (p .1 .0) _ (p .1 .2))
 
--- src/record.rt:28:17
 cast-place : tie.Need-cast-place
 cast-place c = search needs
 
--- src/record.rt:29:33
 code-requires : tie.Need-code-requires
-code-requires c κs = search needs
+code-requires c κs = c .before .before .before .before .pre .1 .0
 
--- src/record.rt:29:11
 decode-requires : tie.Need-decode-requires
 decode-requires c κs = search needs
 
--- src/record.rt:30:25
 enum-told : tie.Need-enum-told
 enum-told c = search needs
 
--- src/record.rt:31:23
 enum-known-i : tie.Need-enum-known-i
 enum-known-i c = search needs
 
--- src/record.rt:31:68
+-- the place that is read is that of the process
+placed : (c : tie.After-place-of)
+    → c .place-of .result ≡ c .before .before .before .pre .1 .2 .process .place
+placed c =
+    let at-start = c .before .before .before in
+    let m = at-start .args .m .now in
+    let s = at-start .pre .1 .0 in
+    let a = at-start .pre .1 .2 in
+    c .place-of .ensures (view m) (sized m s _ (a .process) (a .runs)) (s .state-sound .S1 .records-within _) (s .laid-out)
+    ∙ ap (λ (x : RecordState). registersIn x .place) (a .runs)
+
+-- what the decoder answers, of the code in the memory
+decoded : (c : tie.After-decode)
+    → meaning (view (c .before .before .before .before .before .before .args .m .now) .code) (c .before .before .before .place-of .result) (c .decode .result)
+    ≡ decode (view (c .before .before .before .before .before .before .args .m .now) .code) (c .before .before .before .place-of .result)
+decoded c =
+    let at-code = c .before in
+    let at-place = at-code .before .before in
+    subst
+    (λ (code : List ℕ). meaning code (at-place .place-of .result) (c .decode .result) ≡ decode code (at-place .place-of .result))
+    (at-code .code .ensures)
+    (c .decode .ensures)
+
+-- a decoding that is good, at the place of the process
+good : (c : tie.After-i)
+    → some (record {
+      instruction = instructionOf (view (c .before .before .before .before .before .before .before .before .args .m .now) .code)
+          (c .before .before .before .before .before .place-of .result) (c .i .given .0 .0);
+      next = c .i .given .0 .1 .0;
+    })
+    ≡ decode (view (c .before .before .before .before .before .before .before .before .args .m .now) .code)
+    (c .before .before .before .before .before .place-of .result)
+good c =
+    let at-decode = c .before .before in
+    let at-place = at-decode .before .before .before in
+    let code = view (at-place .before .before .before .args .m .now) .code in
+    ap (meaning code (at-place .place-of .result)) (sym (c .i .given .1)) ∙ decoded at-decode
+
 cast-step-instruction : tie.Need-cast-step-instruction
-cast-step-instruction c = ?
+cast-step-instruction c =
+    let at-i = c .before .before in
+    let at-place = at-i .before .before .before .before .before in
+    let at-start = at-place .before .before .before in
+    next-fits (view (at-start .args .m .now)) (at-start .pre .1 .0 .state-sound) _ _ _ (good at-i)
 
--- src/record.rt:31:35
 step-instruction-requires : tie.Need-step-instruction-requires
-step-instruction-requires c κs = ?
+step-instruction-requires c κs =
+    let at-i = c .before .before in
+    let at-place = at-i .before .before .before .before .before in
+    let at-start = at-place .before .before .before in
+    let p = at-start .pre in
+    let g = at-i .i .given .0 in
+    (p .0, (p .1 .0, p .1 .2, listed-in (view (at-start .args .m .now) .code) _ (g .0) (g .1 .0) (good at-i)))
 
--- src/record.rt:23:1
 same-length : tie.Need-same-length
 same-length c = search needs
 
--- src/record.rt:23:1
 returns : tie.Need-returns
-returns c = ?
+returns c =
+    let at-decode = c .before .before in
+    let at-place = at-decode .before .before .before in
+    let at-start = at-place .before .before .before in
+    let m = at-start .args .m .now in
+    let a = at-start .pre .1 .2 in
+    let code = view m .code in
+    let bad = ap (meaning code (at-place .place-of .result)) (sym (c .enum-told .given .1)) ∙ decoded at-decode in
+    refused-step 4 (no-instruction (view m) _ (a .process) (a .runs) (bad ∙ ap (decode code) (placed at-place)))
 
--- src/record.rt:23:1
 same-length-2 : tie.Need-same-length-2
 same-length-2 c = search needs
 
--- src/record.rt:23:1
 returns-2 : tie.Need-returns-2
-returns-2 c = ?
+returns-2 c =
+    let at-step = c .before .before in
+    let at-i = at-step .before .before .before in
+    let at-place = at-i .before .before .before .before .before in
+    let at-start = at-place .before .before .before in
+    let m = at-start .args .m .now in
+    let a = at-start .pre .1 .2 in
+    let is = an-instruction (view m) _ (a .process) (a .runs) _ _ (good at-i ∙ ap (decode (view m .code)) (placed at-place)) in
+    subst
+    (λ (y : Answer State). Promise (replyTo y) (layoutOr m y) (at-step .step-instruction .result) (at-step .step-instruction .last .0))
+    (sym is)
+    (at-step .step-instruction .ensures (a .process) (a .runs))
 
 pub step-running-spec : {M : Type 1} → statement M
 step-running-spec =
