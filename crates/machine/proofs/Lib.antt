@@ -1,0 +1,2 @@
+pub mod FirstRows
+pub mod Determined
