@@ -13,39 +13,18 @@ use Rattle.rules.specs.State.{slotAt, endOr, endIn, isFreeEnd, lastOf}
 use Rattle.rules.specs.Slots.{isHeld}
 use Rattle.rules.specs.Causes.{empty}
 use Rattle.rules.specs.Layout.{noRegisters, view}
-use Rattle.rules.specs.Sound.{RegistersWithin, RecordWithin, heldIn}
+use Rattle.rules.specs.Sound.{RegistersWithin, heldIn}
 use Rattle.rules.proofs.TestLaws.{true-is-not-false}
 use Rattle.rules.proofs.SoundLaws.{slot-counts, held-within}
 use Rattle.keeping.specs.Demand3.{SoundMemory}
 use Rattle.keeping.proofs.Running.{own-end}
 use Rattle.registers.specs.declared.Registers.{Registers}
-use Rattle.registers.specs.declared.process.Held.{Held}
-use Rattle.registers.specs.Registers.{registersOf, registersIn, heldEnd}
-use Rattle.channels.specs.Appending.{shownBy, HoldsEnd, Runs}
-
--- ---- the end that a slot stands for
-
-pub end-is : {h : Held} {o : Option ℕ} → heldEnd h ≡ o → (x : Held) → h ≡ x → endOr endCount (heldEnd x) ≡ endOr endCount o
-end-is e x q = ap (λ (y : Held). endOr endCount (heldEnd y)) (sym q) ∙ ap (endOr endCount) e
+use Rattle.registers.specs.Registers.{registersOf, registersIn}
+use Rattle.stepping.specs.Stepped.{shownBy}
+use Rattle.stepping.proofs.Steps.{shown-within}
+use Rattle.channels.specs.Appending.{HoldsEnd, Runs}
 
 -- ---- whatever the record is
-
--- the registers that a record shows are within the limits; a free one shows none
-shown-registers : (x : RecordState) → RecordWithin x → RegistersWithin (registersIn x)
-unfolding noRegisters
-shown-registers free-record w = record {
-  place-within = omega arith;
-  stack-within = omega arith;
-  environment-within = omega arith;
-  stack-values = λ i. omega arith;
-  environment-values = λ i. omega arith;
-  slots-within = refl;
-}
-shown-registers (running g) w = w
-shown-registers (waiting g) w = w
-
-pub shown-within : (m : List ℕ) → SoundMemory m → (r : ℕ) → RegistersWithin (shownBy m r)
-shown-within m s r = shown-registers (recordAt (view m) r) (s .state-sound .S1 .records-within r)
 
 -- a slot that is not empty holds the end that it stands for
 holds-some : (o : Option ℕ) → not (isHeld o) ≡ false → o ≡ some (endOr endCount o)

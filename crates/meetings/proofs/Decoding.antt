@@ -1,22 +1,17 @@
 -- What the decoder's answer says of the state's code: the instruction there, the place after it within two bytes, and what a record at
 -- that place wants. Assumes nothing.
-use mathlib.Core.Path.{_≡_, refl, sym, ap, subst}
+use mathlib.Core.Path.{_≡_, refl, sym, subst}
 use mathlib.Core.Option.{none, some}
 use mathlib.Core.List.{List, [], _∷_}
-use Prim.Native.Nat.{ℕ, _≤_, _<_}
-use native.Mathlib.Decide.{decLe}
+use Prim.Native.Nat.{ℕ, _<_}
 use native.Mathlib.Omega.{arith}
-use lib.ListN.{length, take, drop, length-drop}
-use lib.Seq.{take-all, length-take-le}
 use denote.Enum.Declared.{tagOf}
 use types.Run.{OneOf, miss}
-use Rattle.rules.specs.Limits.{codeLimit, placeCount}
-use Rattle.rules.specs.Bytes.{numberAt}
+use Rattle.rules.specs.Limits.{placeCount}
 use Rattle.rules.specs.Instruction.{Decoded as RulesDecoded, decode}
 use Rattle.rules.specs.EndStep.{waitOf}
 use Rattle.rules.specs.Layout.{view}
 use Rattle.keeping.specs.Demand3.{SoundMemory}
-use Rattle.keeping.proofs.Memories.{memory-length}
 use Rattle.keeping.proofs.DecodeLaws.{decoded-within}
 use Rattle.code.specs.declared.Instruction.{Instruction}
 use Rattle.code.specs.declared.Instruction.the-variants.{Cst, Access, Store, Add, Mul, Leq, Put, Get, Split, Fork}
@@ -26,20 +21,6 @@ use Rattle.code.specs.declared.Decoded.the-variants.{Good, Bad}
 use Rattle.code.specs.Meaning.{instructionOf, meaning}
 use Rattle.code.proofs.Instruction.{the-type}
 use Rattle.meetings.specs.Wanted.{wantedBy}
-
--- ---- the code of a sound memory
-
-pub code-length : (m : List ℕ) → SoundMemory m → numberAt 2 m 0 ≤ codeLimit
-unfolding view
-code-length m s =
-    let n = numberAt 2 m 0 in
-    let rest = drop 2 m in
-    let within : length (take n rest) ≤ codeLimit = s .state-sound .S1 .code-within in
-    let size = memory-length m s in
-    elim (decLe n (length rest)) [
-      | yes h ↦ omega (arith, length-take-le n rest h, within)
-      | no h ↦ absurd (omega (arith, ap length (take-all n rest (omega (arith, h))), within, length-drop 2 m, size))
-    ]
 
 -- ---- what was decoded
 

@@ -1,4 +1,5 @@
--- same over plain variables: which ends stand in its two slots, what its rows say of them, and the state with the two joined. Assumes nothing.
+-- same over plain variables: which ends stand in its two slots, what its rows say of them, and the state with the two joined. Assumes
+-- nothing.
 use mathlib.Core.Path.{_≡_, refl, sym, ap, _∙_, subst}
 use mathlib.Core.Logic.{_≢_}
 use mathlib.Core.Bool.{false}
@@ -10,7 +11,8 @@ use lib.Dec.{ltb}
 use lib.Seq.{getD-set-other}
 use borrow.Author.Tests.{eqb-false, ltb-false}
 use Rattle.rules.specs.Limits.{endCount}
-use Rattle.rules.specs.State.{State, Datum, Last, EndState, free-end, used, Registers, free-record, running, recordAt, endAt, setRecord, setEnd, slotAt, endIn, endOr, isFreeEnd, queueLength, dataOf, partnerOf, withPartner}
+use Rattle.rules.specs.State.{State, Datum, Last, EndState, free-end, used, Registers, free-record, running, recordAt, endAt, setRecord}
+use Rattle.rules.specs.State.{setEnd, slotAt, endIn, endOr, isFreeEnd, queueLength, dataOf, partnerOf, withPartner}
 use Rattle.rules.specs.Refusal.{refused, done, NoCause}
 use Rattle.rules.specs.Instruction.{same}
 use Rattle.rules.specs.Causes.{empty, names, ownCauses, sharedCauses}
@@ -26,9 +28,8 @@ use Rattle.keeping.proofs.Running.{own-end, used-in-list}
 use Rattle.keeping.proofs.Joining.{PartnerOf, partner-of}
 use Rattle.ends.proofs.Changes.{sized-anew}
 use Rattle.causes.specs.Own.{ownReply}
-use Rattle.causes.proofs.Shared.{own-done}
+use Rattle.causes.proofs.Shared.{none-holds, one-holds, goes-on, own-done}
 use Rattle.processes.specs.Joinable.{sharedReply, Joinable}
-use Rattle.processes.proofs.Own.{none-holds, one-holds, through}
 
 -- ---- the end in a slot that is not empty
 
@@ -112,7 +113,7 @@ module _ (st : State) (s : Sound st) (r : ℕ) (g : Registers) (is : recordAt st
 
     pub same-done : (next : ℕ) → sharedReply st g (same c d) ≡ Done
         → answerTo st r next g (same c d) ≡ done (after st r next g (lowestFree st) (same c d))
-    same-done next e = own-done st r next g (same c d) passes ∙ through (sharedCauses st g (same c d)) _ e
+    same-done next e = own-done st r next g (same c d) passes ∙ goes-on (sharedCauses st g (same c d)) _ e
 
 -- ---- the state with two ends joined
 

@@ -14,7 +14,7 @@ use Rattle.rules.specs.Numbers.{replyTo}
 use Rattle.rules.specs.Promise.{Promise}
 use Rattle.code.specs.Meaning.{meaning, instructionOf}
 use Rattle.registers.specs.Registers.{registersIn}
-use Rattle.stepping.proofs.Steps.{refused-step, in-range, sized}
+use Rattle.stepping.proofs.Steps.{refused-step, memory-sized, in-range}
 use Rattle.asking.proofs.Listing.{listed-in}
 use Rattle.asking.proofs.Answers.{no-instruction, an-instruction, next-fits}
 use Rattle.asking.proofs.record.step_running.Statement.{statement}
@@ -46,7 +46,7 @@ placed c =
     let m = at-start .args .m .now in
     let s = at-start .pre .1 .0 in
     let a = at-start .pre .1 .2 in
-    c .place-of .ensures (view m) (sized m s _ (a .process) (a .runs)) (s .state-sound .S1 .records-within _) (s .laid-out)
+    c .place-of .ensures (view m) (memory-sized m s) (s .state-sound .S1 .records-within _) (s .laid-out)
     ∙ ap (λ (x : RecordState). registersIn x .place) (a .runs)
 
 -- what the decoder answers, of the code in the memory

@@ -8,11 +8,10 @@ use Rattle.rules.specs.Layout.{view}
 use Rattle.keeping.proofs.Memories.{memory-length}
 use Rattle.ends.proofs.Fitting.{sound-fits}
 use Rattle.rules.specs.Instruction.{placeAt}
-use Rattle.stepping.proofs.Steps.{refused-step, done-step}
+use Rattle.stepping.proofs.Steps.{refused-step, done-step, memory-sized}
 use Rattle.meetings.specs.Wanted.{wantedOf}
-use Rattle.meetings.proofs.Decoding.{code-length}
 use Rattle.meetings.proofs.Answers.{met-mismatch, met-delivers}
-use Rattle.meetings.proofs.Waiting.{sized, waits-there, datum-within, Found, found, datumFor, datum-found, place-is}
+use Rattle.meetings.proofs.Waiting.{waits-there, datum-within, Found, found, datumFor, datum-found, place-is}
 use Rattle.meetings.proofs.Waiting.{no-handle-wanted, handle-below, handle-past}
 use Rattle.meetings.proofs.Changes.{heads-differ}
 use Rattle.meetings.proofs.steps.deliver_handle.Statement.{statement}
@@ -71,10 +70,7 @@ returns-2 c e f =
     refused-step 18 (met-mismatch (view m) e f met)
 
 code-requires : tie.Need-code-requires
-code-requires c κs =
-    let at-start = c .before .before .before .before .before .before .before .before .before .before in
-    let s = at-start .pre .0 .0 in
-    (memory-length _ s, code-length _ s)
+code-requires c κs = search needs
 
 cast-case-place : tie.Need-cast-case-place
 cast-case-place c = search needs
@@ -122,7 +118,7 @@ returns-3 c e f =
     ∙ handle-below (view m .code) (g .place) g _ _ _ (a .n) _ (at-if1 .if1 .left) place in
     let fits = sound-fits (view m) (s .state-sound) in
     done-step m _ (met-delivers (view m) e f met)
-    (at-take-both .take-both .ensures (view m) _ (sized m s) (s .laid-out) (fits _) (fits _)
+    (at-take-both .take-both .ensures (view m) _ (memory-sized m s) (s .laid-out) (fits _) (fits _)
     (heads-differ (view m) _ _ (h .datum-heads) (h .wait-heads)) (at-at .at .ensures g (there .loaded)))
 
 pub deliver-handle-spec : {M : Type 1} → statement M

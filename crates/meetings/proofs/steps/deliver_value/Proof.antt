@@ -9,10 +9,10 @@ use Rattle.rules.specs.Layout.{view}
 use Rattle.keeping.proofs.Memories.{memory-length}
 use Rattle.ends.proofs.Fitting.{sound-fits}
 use Rattle.registers.specs.Registers.{registersOf, pushed}
-use Rattle.stepping.proofs.Steps.{refused-step, done-step, stack-count}
+use Rattle.stepping.proofs.Steps.{refused-step, done-step, stack-count, memory-sized}
 use Rattle.meetings.specs.Wanted.{wantedOf}
 use Rattle.meetings.proofs.Answers.{met-mismatch, met-delivers}
-use Rattle.meetings.proofs.Waiting.{sized, waits-there, datum-within, Found, found, datumFor, datum-found, no-value-wanted}
+use Rattle.meetings.proofs.Waiting.{waits-there, datum-within, Found, found, datumFor, datum-found, no-value-wanted}
 use Rattle.meetings.proofs.Changes.{heads-differ}
 use Rattle.meetings.proofs.steps.deliver_value.Statement.{statement}
 use Rattle.meetings.proofs.steps.deliver_value.Tie as tie
@@ -96,7 +96,7 @@ returns-2 c e f =
     let moved = at-at .at .ensures (pushed g (a .v)) (at-push .push .ensures .1 g (there .loaded) ∙ same) in
     let fits = sound-fits (view m) (s .state-sound) in
     done-step m _ (met-delivers (view m) e f met)
-    (at-take-both .take-both .ensures (view m) _ (sized m s) (s .laid-out) (fits _) (fits _)
+    (at-take-both .take-both .ensures (view m) _ (memory-sized m s) (s .laid-out) (fits _) (fits _)
     (heads-differ (view m) _ _ (h .datum-heads) (h .wait-heads)) moved)
 
 pub deliver-value-spec : {M : Type 1} → statement M
