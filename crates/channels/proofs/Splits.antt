@@ -6,7 +6,6 @@ use mathlib.Core.Bool.{true, false}
 use Prim.Native.Nat.{ℕ, _≤_, _<_}
 use native.Mathlib.Omega.{arith}
 use lib.ListN.{length}
-use lib.Seq.{getD-set-other}
 use borrow.Author.Tests.{lt-ltb, le-ltb}
 use Rattle.rules.specs.State.{State, Registers as Process, registers, EndState, free-end, last, split-item, running, endAt, endIn}
 use Rattle.rules.specs.State.{setRecord, setEnd, appended, fresh-end, isFreeEnd, freeEnds}
@@ -23,6 +22,7 @@ use Rattle.ends.specs.declared.word.FourEnds.{FourEnds}
 use Rattle.ends.specs.Words.{endsIn, FourLowest}
 use Rattle.ends.proofs.Changes.{sized-anew}
 use Rattle.ends.proofs.Words.{agrees}
+use Rattle.stepping.proofs.Steps.{other-end}
 use Rattle.channels.specs.Splitting.{FourWithin, sharedAnswer}
 
 -- ---- the state after
@@ -105,7 +105,7 @@ new-within st z new n =
 -- ---- ends that stay free
 
 stays-free : (st : State) (e : ℕ) (x : EndState) (p : ℕ) → p ≢ e → endAt st p ≡ free-end → endAt (setEnd st e x) p ≡ free-end
-stays-free st e x p differ h = getD-set-other (st .ends) e p x free-end differ ∙ h
+stays-free st e x p differ h = other-end st e p x differ ∙ h
 
 -- a free end is none in use, so it stays free when one in use is put anew
 beside : (st : State) (e : ℕ) (x : EndState) (p : ℕ) → isFreeEnd (endAt st e) ≡ false → endAt st p ≡ free-end

@@ -9,7 +9,7 @@ use Prim.Native.Nat.{ℕ, _<_}
 use native.Mathlib.Decide.{ℕ-discrete}
 use native.Mathlib.Omega.{arith}
 use lib.ListN.{length}
-use lib.Seq.{getD-set-same, getD-set-other}
+use lib.Seq.{getD-set-same}
 use Rattle.rules.specs.Limits.{endCount}
 use Rattle.rules.specs.State.{State, Datum, Last, split-item, Item, datum, last, EndState, free-end, used}
 use Rattle.rules.specs.State.{endAt, setEnd, endOr, headOf, dataOf, partnerOf, isFreeEnd}
@@ -20,11 +20,8 @@ use Rattle.rules.proofs.SoundLaws.{carried-within}
 use Rattle.rules.proofs.TestLaws.{true-is-not-false}
 use Rattle.keeping.proofs.Running.{used-in-list}
 use Rattle.keeping.proofs.Joining.{partner-of}
+use Rattle.stepping.proofs.Steps.{other-end}
 use Rattle.meetings.proofs.Pairs.{last-is}
-
--- another end stays
-pub other-end : (st : State) (e f : ℕ) (x : EndState) → e ≢ f → endAt (setEnd st e x) f ≡ endAt st f
-other-end st e f x differ = getD-set-other (st .ends) e f x free-end (λ z. differ (sym z))
 
 -- no data here stays so when another end, or this one, is freed
 pub no-data-still : (st : State) (e f : ℕ) → e < length (st .ends) → dataOf (endAt st f) ≡ [] → dataOf (endAt (setEnd st e free-end) f) ≡ []
@@ -32,7 +29,7 @@ no-data-still st e f within h = go (ℕ-discrete e f)
   where
     go : Dec (e ≡ f) → dataOf (endAt (setEnd st e free-end) f) ≡ []
     go (yes q) = ap dataOf (ap (endAt (setEnd st e free-end)) (sym q) ∙ getD-set-same (st .ends) e free-end free-end within)
-    go (no n) = ap dataOf (other-end st e f free-end n) ∙ h
+    go (no n) = ap dataOf (other-end st e f free-end (λ z. n (sym z))) ∙ h
 
 -- ---- ends that a step at an end is about
 

@@ -24,8 +24,9 @@ use Rattle.keeping.specs.Demand3.{SoundMemory}
 use Rattle.keeping.proofs.Running.{waiting-in-list}
 use Rattle.registers.specs.declared.Registers.{Registers}
 use Rattle.registers.specs.Registers.{registersOf, registersIn, movedTo}
-use Rattle.stepping.proofs.Steps.{Loads, loaded}
+use Rattle.registers.proofs.Fields.{by-fields}
 use Rattle.code.proofs.Listing.{length-places, listed-place}
+use Rattle.stepping.proofs.Steps.{Loads, loaded}
 use Rattle.meetings.specs.declared.wanted.Wanted.{Wanted as Answer}
 use Rattle.meetings.specs.declared.wanted.Wanted.the-variants.{Nothing, Value as Value′, Handle, Split}
 use Rattle.meetings.specs.Heads.{DatumWaits}
@@ -142,10 +143,6 @@ pub record Found (st : State) (r : ℕ) (x : Registers) (answer : Answer) : Type
   pub loaded : x ≡ registersOf (waits .held)
   pub wanted-is : wantedAt (st .code) (waits .held .place) ≡ wantedOf (st .code) (waits .held .place) answer
 
-pub place-is : (g : Process) {x : Registers} → x ≡ registersOf g → x .place ≡ g .place
-unfolding registersOf
-place-is g e = ap (λ (y : Registers). y .place) e
-
 pub found : (m : List ℕ) → SoundMemory m → (to r : ℕ) → headOf (endAt (view m) to) ≡ some (last (wait-item r))
     → (x : Registers) (answer : Answer)
     → Loads m r x → wantedOf (view m .code) (x .place) answer ≡ wantedAt (view m .code) (x .place) → Found (view m) r x answer
@@ -155,7 +152,9 @@ found m s to r h x answer f q =
     record {
       waits = w;
       loaded = e;
-      wanted-is = sym (subst (λ (p : ℕ). wantedOf (view m .code) p answer ≡ wantedAt (view m .code) p) (place-is (w .held) e) q);
+      wanted-is =
+          let here = by-fields (w .held) e .place-is in
+          sym (subst (λ (p : ℕ). wantedOf (view m .code) p answer ≡ wantedAt (view m .code) p) here q);
     }
 
 module _ (st : State) (r : ℕ) {x : Registers} {answer : Answer} (f : Found st r x answer) where

@@ -21,23 +21,24 @@ use Rattle.keeping.specs.Demand3.{SoundMemory}
 use Rattle.keeping.proofs.LayoutLaws.{Sized}
 use Rattle.registers.specs.declared.Registers.{Registers}
 use Rattle.registers.specs.Registers.{registersOf}
-use Rattle.stepping.proofs.Steps.{promised-as, memory-sized, registers-ok, stack-count}
+use Rattle.registers.proofs.Fields.{by-fields}
+use Rattle.stepping.proofs.Steps.{promised-as, memory-sized, registers-ok}
 use Rattle.numbers.specs.Checked.{checked}
 
 -- ---- the rows 5 and 6
 
 module _ (g : Process) {x : Registers} (e : x ≡ registersOf g) where
   pub few : (k : ℕ) → x .«stack_count» < k → fewer k g ≡ true
-  few k h = lt-ltb (length (g .stack)) k (omega (arith, h, stack-count g e))
+  few k h = lt-ltb (length (g .stack)) k (omega (arith, h, by-fields g e .stack-count-is))
 
   pub enough : (k : ℕ) → k ≤ x .«stack_count» → fewer k g ≡ false
-  enough k h = le-ltb (length (g .stack)) k (omega (arith, h, stack-count g e))
+  enough k h = le-ltb (length (g .stack)) k (omega (arith, h, by-fields g e .stack-count-is))
 
   pub stack-full : stackDepth ≤ x .«stack_count» → stackFull g ≡ true
-  stack-full h = le-leb stackDepth (length (g .stack)) (omega (arith, h, stack-count g e))
+  stack-full h = le-leb stackDepth (length (g .stack)) (omega (arith, h, by-fields g e .stack-count-is))
 
   pub stack-room : x .«stack_count» < stackDepth → stackFull g ≡ false
-  stack-room h = lt-leb stackDepth (length (g .stack)) (omega (arith, h, stack-count g e))
+  stack-room h = lt-leb stackDepth (length (g .stack)) (omega (arith, h, by-fields g e .stack-count-is))
 
 -- ---- a value that is checked
 

@@ -1,11 +1,14 @@
 -- What the functions that step a record share: a refusal leaves the memory as it was, registers saved are the state after, and the
 -- registers that are loaded from a sound memory are those of the record. Assumes nothing.
 use mathlib.Core.Path.{_≡_, refl, sym, ap, _∙_, subst}
+use mathlib.Core.Logic.{_≢_}
 use mathlib.Core.List.{List}
 use Prim.Native.Nat.{ℕ, _≤_, _<_}
 use native.Mathlib.Omega.{arith}
-use lib.ListN.{length, drop, length-take, length-drop, length-set}
-use Rattle.rules.specs.State.{State, Registers as Process, RecordState, free-record, running, waiting, recordAt, setRecord}
+use lib.ListN.{drop, length-take, length-drop, length-set}
+use lib.Seq.{getD-set-other}
+use Rattle.rules.specs.State.{State, Registers as Process, EndState, free-end, RecordState, free-record, running, waiting}
+use Rattle.rules.specs.State.{recordAt, endAt, setRecord, setEnd}
 use Rattle.rules.specs.Refusal.{Answer, refused, done}
 use Rattle.rules.specs.Limits.{recordCount, environmentDepth, codeLimit}
 use Rattle.rules.specs.Bytes.{numberAt}
@@ -22,6 +25,7 @@ use Rattle.keeping.proofs.Running.{running-in-list}
 use Rattle.keeping.proofs.Memories.{memory-length}
 use Rattle.registers.specs.declared.Registers.{Registers}
 use Rattle.registers.specs.Registers.{registersOf, registersIn}
+use Rattle.registers.proofs.Fields.{by-fields}
 use Rattle.stepping.specs.Stepped.{shownBy, RunsAt}
 
 -- ---- replies
@@ -38,9 +42,13 @@ pub promised-as : {a b : Answer State} (m : List ℕ) {reply : Reply} {left : Li
     → Promise (replyTo b) (layoutOr m b) reply left → Promise (replyTo a) (layoutOr m a) reply left
 promised-as m {reply} {left} q p = subst (λ (x : Answer State). Promise (replyTo x) (layoutOr m x) reply left) (sym q) p
 
--- ---- a record put anew
+-- ---- what is put anew
 
--- there are as many records and ends; for an end put anew `sized-anew` of `ends` says it
+-- another end stays
+pub other-end : (st : State) (e k : ℕ) (x : EndState) → k ≢ e → endAt (setEnd st e x) k ≡ endAt st k
+other-end st e k x differ = getD-set-other (st .ends) e k x free-end differ
+
+-- with a record put anew there are as many records and ends; for an end put anew `sized-anew` of `ends` says it
 pub sized-record : (st : State) (r : ℕ) (x : RecordState) → Sized st → Sized (setRecord st r x)
 sized-record st r x z = record { records-sized = length-set (st .records) r x ∙ z .records-sized; ends-sized = z .ends-sized }
 
@@ -82,6 +90,10 @@ shown-within m s r = go (recordAt (view m) r) (s .state-sound .S1 .records-withi
     go (running g) w = w
     go (waiting g) w = w
 
+-- the environment that is loaded is within the limits, whatever the record is
+pub held-small : (m : List ℕ) (s : SoundMemory m) (r : ℕ) {x : Registers} → Loads m r x → x .«environment_count» ≤ environmentDepth
+held-small m s r f = omega (arith, by-fields (shownBy m r) (loaded m s r f) .environment-count-is, shown-within m s r .environment-within)
+
 -- ---- a running record of a sound memory
 
 module _ (m : List ℕ) (s : SoundMemory m) (r : ℕ) (g : Process) (is : recordAt (view m) r ≡ running g) where
@@ -94,17 +106,3 @@ module _ (m : List ℕ) (s : SoundMemory m) (r : ℕ) (g : Process) (is : record
 -- its number is one of a record's
 pub in-range : (m : List ℕ) → SoundMemory m → (r : ℕ) → RunsAt m r → r < recordCount
 in-range m s r a = rw (sym (s .state-sound .S1 .record-count)) (running-in-list (view m) r (a .process) (a .runs))
-
--- ---- counts
-
-pub stack-count : {x : Registers} (g : Process) → x ≡ registersOf g → x .«stack_count» ≡ length (g .stack)
-unfolding registersOf
-stack-count g e = ap (λ (y : Registers). y .«stack_count») e
-
-pub environment-count : {x : Registers} (g : Process) → x ≡ registersOf g → x .«environment_count» ≡ length (g .environment)
-unfolding registersOf
-environment-count g e = ap (λ (y : Registers). y .«environment_count») e
-
--- the environment that is loaded is within the limits, whatever the record is
-pub held-small : (m : List ℕ) (s : SoundMemory m) (r : ℕ) {x : Registers} → Loads m r x → x .«environment_count» ≤ environmentDepth
-held-small m s r f = omega (arith, environment-count (shownBy m r) (loaded m s r f), shown-within m s r .environment-within)

@@ -13,7 +13,8 @@ use Rattle.rules.specs.Layout.{view}
 use Rattle.rules.specs.Sound.{ValueWithin}
 use Rattle.keeping.proofs.Memories.{memory-length}
 use Rattle.registers.specs.Registers.{registersOf, registersIn, pushed}
-use Rattle.stepping.proofs.Steps.{refused-step, done-step, memory-sized, registers-ok, held-is, held-small, environment-count}
+use Rattle.registers.proofs.Fields.{by-fields}
+use Rattle.stepping.proofs.Steps.{refused-step, done-step, memory-sized, registers-ok, held-is, held-small}
 use Rattle.numbers.proofs.Cases.{access-full, access-none, access-done}
 use Rattle.numbers.proofs.Loaded.{stack-full, stack-room}
 use Rattle.numbers.proofs.access.Statement.{statement}
@@ -44,7 +45,7 @@ returns-2 c g is =
     let a = at-start .args in
     let m = a .m .now in
     let x = held-is m (at-start .pre .0) _ g is (at-load .load .ensures) in
-    let past = le-leb (length (g .environment)) (a .n) (omega (arith, c .if2 .taken, environment-count g x)) in
+    let past = le-leb (length (g .environment)) (a .n) (omega (arith, c .if2 .taken, by-fields g x .environment-count-is)) in
     refused-step 7 (access-none (view m) _ _ g _ (stack-room g x (at-if1 .if1 .left)) past)
 
 environment-value-requires : tie.Need-environment-value-requires
@@ -83,7 +84,7 @@ returns-3 c g is =
     let m = a .m .now in
     let s = at-start .pre .0 in
     let x = held-is m s _ g is (at-load .load .ensures) in
-    let there = lt-leb (length (g .environment)) (a .n) (omega (arith, at-if2 .if2 .left, environment-count g x)) in
+    let there = lt-leb (length (g .environment)) (a .n) (omega (arith, at-if2 .if2 .left, by-fields g x .environment-count-is)) in
     let ok = s .state-sound .S1 .records-within _ in
     let value = at-value .environment-value .ensures (view m) (memory-sized m s) ok (s .laid-out)
     ∙ ap (λ (y : RecordState). getD (registersIn y .environment) (a .n) (pos 0)) is in

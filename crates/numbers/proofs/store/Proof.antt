@@ -7,7 +7,8 @@ use Rattle.rules.specs.Limits.{environmentDepth}
 use Rattle.rules.specs.Layout.{view}
 use Rattle.keeping.proofs.Memories.{memory-length}
 use Rattle.registers.specs.Registers.{stored}
-use Rattle.stepping.proofs.Steps.{refused-step, done-step, memory-sized, registers-ok, held-is, environment-count}
+use Rattle.registers.proofs.Fields.{by-fields}
+use Rattle.stepping.proofs.Steps.{refused-step, done-step, memory-sized, registers-ok, held-is}
 use Rattle.numbers.proofs.Cases.{store-few, store-full, store-done}
 use Rattle.numbers.proofs.Loaded.{few, enough}
 use Rattle.numbers.proofs.store.Statement.{statement}
@@ -37,7 +38,7 @@ returns-2 c g is =
     let at-start = at-load .before .before .before in
     let m = at-start .args .m .now in
     let x = held-is m (at-start .pre .0) _ g is (at-load .load .ensures) in
-    let full = le-leb environmentDepth (length (g .environment)) (omega (arith, c .if2 .taken, environment-count g x)) in
+    let full = le-leb environmentDepth (length (g .environment)) (omega (arith, c .if2 .taken, by-fields g x .environment-count-is)) in
     refused-step 6 (store-full (view m) _ _ g (enough g x 1 (at-if1 .if1 .left)) full)
 
 store-requires : tie.Need-store-requires
@@ -66,7 +67,7 @@ returns-3 c g is =
     let m = at-start .args .m .now in
     let s = at-start .pre .0 in
     let x = held-is m s _ g is (at-load .load .ensures) in
-    let room = lt-leb environmentDepth (length (g .environment)) (omega (arith, at-if2 .if2 .left, environment-count g x)) in
+    let room = lt-leb environmentDepth (length (g .environment)) (omega (arith, at-if2 .if2 .left, by-fields g x .environment-count-is)) in
     let within = registers-ok m s _ g is .stack-within in
     let moved = at-at .at .ensures (stored g) (at-store .store .ensures .1 g within x) in
     done-step m _ (store-done (view m) _ _ g (enough g x 1 (at-if1 .if1 .left)) room)

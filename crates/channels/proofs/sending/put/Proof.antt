@@ -18,8 +18,9 @@ use Rattle.rules.specs.Sound.{ValueWithin}
 use Rattle.rules.specs.declared.Reply.the-variants.{Done}
 use Rattle.keeping.proofs.Memories.{memory-length}
 use Rattle.registers.specs.Registers.{popped}
+use Rattle.registers.proofs.Fields.{by-fields}
 use Rattle.stepping.specs.Stepped.{shownBy}
-use Rattle.stepping.proofs.Steps.{registers-ok, stack-count}
+use Rattle.stepping.proofs.Steps.{registers-ok}
 use Rattle.stepping.proofs.Begun.{Begun, told, own-step, shown, shown-passed, shared-left}
 use Rattle.channels.proofs.Answers.{holds-end, runs-here, full-step, sent}
 use Rattle.channels.proofs.Named.{put-named}
@@ -66,7 +67,7 @@ pop-requires c κs =
     let a = c .before .before .before .before .before .before .args in
     let b = passed c in
     let g = shownBy (a .m .now) (a .r .0) in
-    omega (arith, stack-count g (shown b), ltb-false (length (g .stack)) 1 (one-value g _ (shown-passed b)))
+    omega (arith, by-fields g (shown b) .stack-count-is, ltb-false (length (g .stack)) 1 (one-value g _ (shown-passed b)))
 
 append-requires : tie.Need-append-requires
 append-requires c κs = holds-end (passed (c .before .before .before)) _ (put-named _)

@@ -8,10 +8,11 @@ use Rattle.rules.specs.Layout.{view}
 use Rattle.keeping.proofs.Memories.{memory-length}
 use Rattle.ends.proofs.Fitting.{sound-fits}
 use Rattle.rules.specs.Instruction.{placeAt}
+use Rattle.registers.proofs.Fields.{by-fields}
 use Rattle.stepping.proofs.Steps.{refused-step, done-step, memory-sized}
 use Rattle.meetings.specs.Wanted.{wantedOf}
 use Rattle.meetings.proofs.Answers.{met-mismatch, met-delivers}
-use Rattle.meetings.proofs.Waiting.{waits-there, datum-within, Found, found, datumFor, datum-found, place-is}
+use Rattle.meetings.proofs.Waiting.{waits-there, datum-within, Found, found, datumFor, datum-found}
 use Rattle.meetings.proofs.Waiting.{no-handle-wanted, handle-below, handle-past}
 use Rattle.meetings.proofs.Changes.{heads-differ}
 use Rattle.meetings.proofs.steps.deliver_handle.Statement.{statement}
@@ -112,7 +113,7 @@ returns-3 c e f =
     let wanted = ap (wantedOf (view m .code) (g .place)) (at-k .k .given .1) in
     let place = at-place .case-place .ensures
     ∙ ap (λ (code : List ℕ). placeAt code (x .place) (3 + 2 * a .n)) (at-code .code .ensures)
-    ∙ ap (λ (p : ℕ). placeAt (view m .code) p (3 + 2 * a .n)) (place-is g (there .loaded)) in
+    ∙ ap (λ (p : ℕ). placeAt (view m .code) p (3 + 2 * a .n)) (by-fields g (there .loaded) .place-is) in
     let met = datum-found (view m) _ there (a .from .0) (a .to .0) (handle (a .n))
     ∙ ap (datumFor (a .from .0) (a .to .0) (a .r .0) (handle (a .n)) g) wanted
     ∙ handle-below (view m .code) (g .place) g _ _ _ (a .n) _ (at-if1 .if1 .left) place in

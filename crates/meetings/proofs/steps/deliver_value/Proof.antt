@@ -9,7 +9,8 @@ use Rattle.rules.specs.Layout.{view}
 use Rattle.keeping.proofs.Memories.{memory-length}
 use Rattle.ends.proofs.Fitting.{sound-fits}
 use Rattle.registers.specs.Registers.{registersOf, pushed}
-use Rattle.stepping.proofs.Steps.{refused-step, done-step, stack-count, memory-sized}
+use Rattle.registers.proofs.Fields.{by-fields}
+use Rattle.stepping.proofs.Steps.{refused-step, done-step, memory-sized}
 use Rattle.meetings.specs.Wanted.{wantedOf}
 use Rattle.meetings.proofs.Answers.{met-mismatch, met-delivers}
 use Rattle.meetings.proofs.Waiting.{waits-there, datum-within, Found, found, datumFor, datum-found, no-value-wanted}
@@ -60,7 +61,7 @@ push-requires c κs =
     let f = found-here at-wanted-at in
     let w = f .waits in
     let room = w .room _ (f .wanted-is ∙ ap (wantedOf code (w .held .place)) (c .before .next .given .1)) in
-    omega (arith, room, stack-count (w .held) (f .loaded))
+    omega (arith, room, by-fields (w .held) (f .loaded) .stack-count-is)
 
 at-requires : tie.Need-at-requires
 at-requires c κs = search needs

@@ -5,7 +5,8 @@ use Rattle.rules.specs.Instruction.{Instruction, slotsAt, run}
 use Rattle.rules.specs.Layout.{view}
 use Rattle.rules.specs.declared.Reply.the-variants.{Done}
 use Rattle.keeping.proofs.Memories.{memory-length}
-use Rattle.stepping.proofs.Steps.{done-step, memory-sized, in-range, stack-count}
+use Rattle.registers.proofs.Fields.{by-fields}
+use Rattle.stepping.proofs.Steps.{done-step, memory-sized, in-range}
 use Rattle.stepping.proofs.Begun.{Begun, told, within, held, own-step, passes}
 use Rattle.processes.proofs.CallCases.{enough, run-done}
 use Rattle.processes.proofs.calling.run.Statement.{statement}
@@ -62,7 +63,8 @@ callee-requires c κs =
     let g = p .1 .process in
     let is = p .1 .runs in
     let some = enough g (at-start .args .place) _ _ (passes b g is) in
-    ((p .0, p .2), (omega (arith, some, stack-count g (held b g is)), omega (arith, some, within b g is .stack-within)))
+    let count = by-fields g (held b g is) .stack-count-is in
+    ((p .0, p .2), (omega (arith, some, count), omega (arith, some, within b g is .stack-within)))
 
 save-running-requires : tie.Need-save-running-requires
 save-running-requires c κs =
