@@ -6,8 +6,8 @@ use borrow.Author.Needs.{needs}
 use Rattle.rules.specs.Instruction.{Decoded}
 use Rattle.rules.specs.EndStep.{decodedWait}
 use Rattle.rules.specs.Layout.{view}
+use Rattle.stepping.proofs.Decoding.{decoded-good, decoded-bad, next-small}
 use Rattle.meetings.specs.Wanted.{wantedBy}
-use Rattle.meetings.proofs.Decoding.{decoded-good, decoded-bad, next-small}
 use Rattle.meetings.proofs.wanted.wanted_at.Statement.{statement}
 use Rattle.meetings.proofs.wanted.wanted_at.Tie as tie
 
