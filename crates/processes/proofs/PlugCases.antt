@@ -26,9 +26,9 @@ use Rattle.processes.specs.Spare.{Spare}
 -- ---- answers
 
 module _ (st : State) (r next : ℕ) (g : Registers) (a m place m′ place′ : ℕ) (passes : ownReply g (plug a m place m′ place′) ≡ Done) where
-  pub few-ends : fewFreeEnds 2 st ≡ true → answerTo st r next g (plug a m place m′ place′) ≡ refused 15
+  pub too-few-ends : fewFreeEnds 2 st ≡ true → answerTo st r next g (plug a m place m′ place′) ≡ refused 15
   unfolding sharedCauses unless
-  few-ends t = own-done st r next g (plug a m place m′ place′) passes ∙ rw t
+  too-few-ends t = own-done st r next g (plug a m place m′ place′) passes ∙ rw t
 
   pub no-free-record : fewFreeEnds 2 st ≡ false → noFreeRecord st ≡ true → answerTo st r next g (plug a m place m′ place′) ≡ refused 15
   unfolding sharedCauses unless

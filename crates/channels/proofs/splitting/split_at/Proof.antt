@@ -8,11 +8,12 @@ use Rattle.rules.specs.State.{Registers as Process, endIn}
 use Rattle.rules.specs.Layout.{view, freeWord}
 use Rattle.keeping.proofs.Memories.{memory-length}
 use Rattle.stepping.proofs.Steps.{refused-step, done-step, memory-sized, registers-ok}
+use Rattle.stepping.proofs.FreeEnds.{few-ends}
 use Rattle.channels.specs.Appending.{Runs}
 use Rattle.channels.proofs.Holding.{end-within, own}
 use Rattle.channels.proofs.Appends.{full, not-full}
 use Rattle.channels.proofs.Splits.{splitEnds, splitRegisters, sized-split, split-full, split-few, split-done}
-use Rattle.channels.proofs.Splits.{NewEnds, few, new-ends, new-within}
+use Rattle.channels.proofs.Splits.{NewEnds, new-ends, new-within}
 use Rattle.channels.proofs.splitting.split_at.Statement.{statement}
 use Rattle.channels.proofs.splitting.split_at.Tie as tie
 
@@ -75,7 +76,7 @@ returns-2 c g h =
     let a = at-own-end .before .before .args in
     let s = at-own-end .before .before .pre .0 .sound in
     let room = not-full s h _ (here at-own-end g h) (at-queued .queued .ensures .1) (at-if1 .if1 .left) in
-    let too-few = few _ (memory-sized _ s) _ (word-is at-free-word) (at-count .count .ensures) (c .if2 .taken) in
+    let too-few = few-ends _ (memory-sized _ s) _ (word-is at-free-word) (at-count .count .ensures) 4 (c .if2 .taken) in
     record { shared = refused-step 15 (split-few (view (a .m .now)) _ _ g _ _ _ room too-few) }
 
 four-lowest-requires : tie.Need-four-lowest-requires

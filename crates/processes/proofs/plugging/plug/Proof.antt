@@ -1,21 +1,19 @@
 -- plug: what its rows say, 15, or the two processes. Assumes nothing.
-use mathlib.Core.Path.{_≡_, _∙_}
+use mathlib.Core.Path.{_≡_}
 use mathlib.Core.Bool.{false}
 use native.Mathlib.Omega.{arith}
-use lib.ListN.{length}
 use borrow.Author.Needs.{needs}
-use borrow.Author.Tests.{lt-ltb, le-ltb}
-use Rattle.rules.specs.State.{freeEnds, lowestFreeRecord}
+use Rattle.rules.specs.State.{lowestFreeRecord}
 use Rattle.rules.specs.Instruction.{Instruction, plug}
 use Rattle.rules.specs.Causes.{fewFreeEnds, noFreeRecord}
 use Rattle.rules.specs.Layout.{view, freeWord}
 use Rattle.rules.specs.declared.Reply.the-variants.{Done}
 use Rattle.keeping.proofs.Memories.{memory-length}
-use Rattle.ends.proofs.Words.{agrees}
 use Rattle.stepping.proofs.Steps.{refused-step, done-step, memory-sized, in-range}
+use Rattle.stepping.proofs.FreeEnds.{few-ends, enough-ends}
 use Rattle.stepping.proofs.FreeRecords.{no-record, some-record}
 use Rattle.stepping.proofs.Begun.{Begun, told, held, own-step, passes}
-use Rattle.processes.proofs.PlugCases.{few-ends, no-free-record, plugged}
+use Rattle.processes.proofs.PlugCases.{too-few-ends, no-free-record, plugged}
 use Rattle.processes.proofs.plugging.plug.Statement.{statement}
 use Rattle.processes.proofs.plugging.plug.Tie as tie
 
@@ -70,22 +68,16 @@ word-read c =
     let s = c .before .before .before .before .before .before .before .before .pre .0 in
     c .free-word .ensures _ (memory-sized _ s) (s .laid-out)
 
--- how many ends are free
-counted : (c : tie.After-count) → let s = c .before .before .before .before .before .before .before .before .before in
-    c .count .result ≡ length (freeEnds (view (s .args .m .now)))
-counted c =
-    let at-word = c .before in
-    let s = at-word .before .before .before .before .before .before .before .before .pre .0 in
-    c .count .ensures ∙ agrees _ (memory-sized _ s) _ (word-read at-word) .count
-
 returns-2 : tie.Need-returns-2
 returns-2 c next g is =
     let at-count = c .before in
-    let at-told = at-count .before .before .before in
-    let a = at-told .before .before .before .before .before .before .args in
+    let at-word = at-count .before in
+    let at-told = at-word .before .before in
+    let at-start = at-told .before .before .before .before .before .before in
+    let a = at-start .args in
     let st = view (a .m .now) in
-    let few = lt-ltb (length (freeEnds st)) 2 (omega (arith, c .if1 .taken, counted at-count)) in
-    refused-step 15 (few-ends st (a .r .0) next g _ _ _ _ _ (passes (passed at-told) g is) few)
+    let few = few-ends st (memory-sized _ (at-start .pre .0)) _ (word-read at-word) (at-count .count .ensures) 2 (c .if1 .taken) in
+    refused-step 15 (too-few-ends st (a .r .0) next g _ _ _ _ _ (passes (passed at-told) g is) few)
 
 lowest-free-record-requires : tie.Need-lowest-free-record-requires
 lowest-free-record-requires c κs =
@@ -102,8 +94,9 @@ two : (c : tie.Else1) → let s = c .before .before .before .before .before .bef
     fewFreeEnds 2 (view (s .args .m .now)) ≡ false
 two c =
     let at-count = c .before in
-    let a = at-count .before .before .before .before .before .before .before .before .before .args in
-    le-ltb (length (freeEnds (view (a .m .now)))) 2 (omega (arith, c .if1 .left, counted at-count))
+    let at-word = at-count .before in
+    let s = at-word .before .before .before .before .before .before .before .before .pre .0 in
+    enough-ends _ (memory-sized _ s) _ (word-read at-word) (at-count .count .ensures) 2 (c .if1 .left)
 
 -- the record that is found is the lowest free one
 new-read : (c : tie.After-lowest-free-record) → let at-word = c .before .before .before .before in
