@@ -21,6 +21,23 @@ const RECORDS_AT: usize = 8158;
 
 const RECORD_SIZE: usize = 141;
 
+// In a record: the place, the two counts, the slots, the values.
+const PLACE: usize = 1;
+
+const STACK_COUNT: usize = 3;
+
+const ENVIRONMENT_COUNT: usize = 4;
+
+const SLOTS: usize = 5;
+
+const STACK: usize = 13;
+
+const ENVIRONMENT: usize = 77;
+
+const RUNNING: u8 = 1;
+
+const WAITING: u8 = 2;
+
 const FREE_AT: usize = 12670;
 
 const PARTNERS_AT: usize = 12678;
@@ -30,6 +47,19 @@ const COUNTS_AT: usize = 12742;
 const QUEUES_AT: usize = 12806;
 
 const QUEUE_SIZE: usize = 64;
+
+const CELL_SIZE: usize = 8;
+
+// The kinds of item.
+const VALUE: u8 = 1;
+
+const HANDLE: u8 = 2;
+
+const SPLIT: u8 = 3;
+
+const CLOSE: u8 = 4;
+
+const WAIT: u8 = 5;
 
 // Bytes past the memory are not written.
 fn put(m: &mut [u8], at: usize, n: u8) {
@@ -119,7 +149,7 @@ fn append_values(m: &mut [u8], count: usize, cells: usize, n: u32, times: u32)
 // An item goes behind the others on an end's queue.
 fn append_item(m: &mut [u8], end: u32, kind: u8, payload: u32) {
     let k = count_up(m, COUNTS_AT + end as usize);
-    let at = queue_at(end) + 8 * k;
+    let at = queue_at(end) + CELL_SIZE * k;
     put(m, at, kind);
     put_four(m, at + 1, payload);
 }
@@ -207,21 +237,22 @@ fn pair(m: &mut [u8], e: u32, f: u32) {
 fn close_pair(m: &mut [u8], k: u32) {
     let e = k % 64 * 2;
     pair(m, e, e + 1);
-    append_item(m, e, 4, 0);
-    append_item(m, e + 1, 4, 0);
+    append_item(m, e, CLOSE, 0);
+    append_item(m, e + 1, CLOSE, 0);
 }
 
+// The ends from `first` up to `last - 1`, both even.
 fn close_pairs(m: &mut [u8], first: u32, last: u32) {
     for k in first / 2..last / 2 {
         close_pair(m, k);
     }
 }
 
-// Each record from `first` up to `last` runs at place 0 and holds nothing.
+// Each record from `first` to `last` runs.
 fn run_records(m: &mut [u8], first: u32, last: u32) {
-    put(m, record_at(last), 1);
+    put(m, record_at(last), RUNNING);
     for r in first..last {
-        put(m, record_at(r), 1);
+        put(m, record_at(r), RUNNING);
     }
 }
 
@@ -229,21 +260,21 @@ fn run_records(m: &mut [u8], first: u32, last: u32) {
 fn value_word(m: &mut [u8], name: &[u8], record: u32, a: u32, b: u32) -> bool {
     let at = record_at(record);
     if same(name, b"stack") {
-        append_values(m, at + 3, at + 13, a, b);
+        append_values(m, at + STACK_COUNT, at + STACK, a, b);
         return true;
     }
     if same(name, b"no-stack") {
-        put(m, at + 3, 0);
-        clear(m, at + 13, at + 77);
+        put(m, at + STACK_COUNT, 0);
+        clear(m, at + STACK, at + ENVIRONMENT);
         return true;
     }
     if same(name, b"environment") {
-        append_values(m, at + 4, at + 77, a, b);
+        append_values(m, at + ENVIRONMENT_COUNT, at + ENVIRONMENT, a, b);
         return true;
     }
     if same(name, b"no-environment") {
-        put(m, at + 4, 0);
-        clear(m, at + 77, at + RECORD_SIZE);
+        put(m, at + ENVIRONMENT_COUNT, 0);
+        clear(m, at + ENVIRONMENT, at + RECORD_SIZE);
         return true;
     }
     false
@@ -253,23 +284,23 @@ fn value_word(m: &mut [u8], name: &[u8], record: u32, a: u32, b: u32) -> bool {
 fn record_word(m: &mut [u8], name: &[u8], record: u32, a: u32, b: u32) -> bool {
     let at = record_at(record);
     if same(name, b"running") {
-        put(m, at, 1);
+        put(m, at, RUNNING);
         return true;
     }
     if same(name, b"waiting") {
-        put(m, at, 2);
+        put(m, at, WAITING);
         return true;
     }
     if same(name, b"place") {
-        put_two(m, at + 1, a);
+        put_two(m, at + PLACE, a);
         return true;
     }
     if same(name, b"slot") {
-        put(m, at + 5 + a as usize, (b % 255 + 1) as u8);
+        put(m, at + SLOTS + a as usize, (b % 255 + 1) as u8);
         return true;
     }
     if same(name, b"empty") {
-        put(m, at + 5 + a as usize, 0);
+        put(m, at + SLOTS + a as usize, 0);
         return true;
     }
     if same(name, b"freed") {
@@ -282,23 +313,23 @@ fn record_word(m: &mut [u8], name: &[u8], record: u32, a: u32, b: u32) -> bool {
 // Words about an end's queue.
 fn queue_word(m: &mut [u8], name: &[u8], end: u32, a: u32, b: u32) -> bool {
     if same(name, b"value") {
-        append_items(m, end, 1, a, b);
+        append_items(m, end, VALUE, a, b);
         return true;
     }
     if same(name, b"handle") {
-        append_items(m, end, 2, a, b);
+        append_items(m, end, HANDLE, a, b);
         return true;
     }
     if same(name, b"split") {
-        append_item(m, end, 3, a % 256 + b % 256 * 256);
+        append_item(m, end, SPLIT, a % 256 + b % 256 * 256);
         return true;
     }
     if same(name, b"close") {
-        append_item(m, end, 4, 0);
+        append_item(m, end, CLOSE, 0);
         return true;
     }
     if same(name, b"wait") {
-        append_item(m, end, 5, a);
+        append_item(m, end, WAIT, a);
         return true;
     }
     if same(name, b"no-queue") {

@@ -3,6 +3,7 @@
 // come out as written, and how many there were.
 use build::build;
 use libc::STDIN_FILENO;
+use machine::FreeEnds;
 use memory::STATE_SIZE;
 use rules::Reply;
 use text::byte;
@@ -15,6 +16,9 @@ use text::say_number;
 
 mod text; // text.rt: words and numbers of a text
 mod build; // build.rt: words that build a memory
+
+// Said of free ends that are not those asked for; no number of document 01.
+const OTHER_ENDS: u32 = 255;
 
 // How many cases there were, and how many did not come out as written.
 struct Tally {
@@ -45,15 +49,42 @@ fn ask(m: &mut [u8], kind: &[u8], n: u32) -> u32 {
     number_of(machine::ask_end(m, n))
 }
 
-// R:5 asks record 5, E:63 asks end 63. A second number is how many bytes are lent.
+fn agrees(count: u8, lowest: u8, counted: u32, found: u32) -> u32 {
+    if count as u32 != counted {
+        return OTHER_ENDS;
+    }
+    if lowest as u32 != found {
+        return OTHER_ENDS;
+    }
+    0
+}
+
+// How many ends are free, and the lowest: 0 where they are those.
+fn ask_free(m: &[u8], counted: u32, found: u32) -> u32 {
+    match machine::free_ends(m) {
+        FreeEnds::Refused(number) => number as u32,
+        FreeEnds::Counted { count, lowest } => agrees(count, lowest, counted, found),
+    }
+}
+
+// R:5 asks record 5, E:63 asks end 63; a second number is how many bytes are lent. F:62:2 asks whether 62 ends are free, the lowest of
+// them 2.
 fn request(m: &mut [u8], word: &[u8]) -> u32 {
     let kind = part(word, b':', 0);
-    let n = number(part(word, b':', 1));
-    let lent = number(part(word, b':', 2)) as usize;
-    if lent == 0 {
-        return ask_front(m, STATE_SIZE, kind, n);
+    let a = number(part(word, b':', 1));
+    let b = number(part(word, b':', 2));
+    if same(kind, b"F") {
+        return ask_free(front(m, STATE_SIZE), a, b);
     }
-    ask_front(m, lent, kind, n)
+    if b == 0 {
+        return ask_front(m, STATE_SIZE, kind, a);
+    }
+    ask_front(m, b as usize, kind, a)
+}
+
+// The first n bytes, or all where there are fewer.
+fn front(bytes: &[u8], n: usize) -> &[u8] {
+    if n <= bytes.len() { &bytes[..n] } else { bytes }
 }
 
 fn ask_front(m: &mut [u8], lent: usize, kind: &[u8], n: u32) -> u32 {
@@ -65,10 +96,10 @@ fn ask_front(m: &mut [u8], lent: usize, kind: &[u8], n: u32) -> u32 {
 
 fn complain(name: &[u8], answer: u32, kept: bool) {
     say(name);
-    say(b": ");
+    say(b"came ");
     say_number(answer);
     if !kept {
-        say(b", another memory");
+        say(b" with another memory");
     }
     say(b"\n");
 }
