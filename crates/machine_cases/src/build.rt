@@ -100,6 +100,7 @@ fn put_code(m: &mut [u8], digits: &[u8]) {
     }
 }
 
+// Where a record stands, and an end's queue. Any number may be written in a sheet, and its place is far from the largest.
 fn record_at(record: u32) -> usize
     ensures { λ r. ⌜ r < 1099511627776 ⌝ }
 {

@@ -17,6 +17,9 @@ use text::say_number;
 mod text; // text.rt: words and numbers of a text
 mod build; // build.rt: words that build a memory
 
+// One byte more than the state memory has, so that too many can be lent.
+const ROOM: usize = 16903;
+
 // Said of free ends that are not those asked for; no number of document 01.
 const OTHER_ENDS: u32 = 255;
 
@@ -106,8 +109,8 @@ fn complain(name: &[u8], answer: u32, kept: bool) {
 
 // A case comes out as written: the number, and every byte of the memory.
 fn case(base: &[u8], line: &[u8]) -> bool {
-    let mut now = [0u8; 16903];
-    let mut wanted = [0u8; 16903];
+    let mut now = [0u8; ROOM];
+    let mut wanted = [0u8; ROOM];
     copy(base, &mut now);
     build(&mut now, part(line, b'|', 1));
     copy(&now, &mut wanted);
@@ -157,7 +160,7 @@ fn start(base: &mut [u8]) {
 }
 
 fn all_lines(sheet: &[u8]) -> Tally {
-    let mut base = [0u8; 16903];
+    let mut base = [0u8; ROOM];
     let mut tally = Tally {
         cases: 0,
         failed: 0,
@@ -172,7 +175,7 @@ fn all_lines(sheet: &[u8]) -> Tally {
 }
 
 fn main() {
-    let mut room = [0u8; 65536];
+    let mut room = [0u8; 131072];
     let n = io::read_full(STDIN_FILENO, &mut room);
     let tally = all_lines(&room[..n]);
     say_number(tally.cases);

@@ -1,4 +1,4 @@
--- `machine_cases::ask_front` is safe. Assumes nothing.
+-- `machine_cases::ask_front` lends a part of the memory. Assumes nothing.
 use mathlib.Core.Path.{sym}
 use native.Mathlib.Omega.{arith}
 use lib.Seq.{length-take-le}

@@ -2,6 +2,7 @@
 use mathlib.Core.Path.{_≡_}
 use Prim.Native.Nat.{_-_}
 use lib.ListN.{length}
+use Rattle.rules.specs.Limits.{codeLimit}
 use borrow.Author.Needs.{needs}
 use Rattle.machine_cases.proofs.build.put_code.Statement.{statement}
 use Rattle.machine_cases.proofs.build.put_code.Tie as tie
@@ -10,7 +11,7 @@ abbrev Inv-loop : tie.InvT-loop
 Inv-loop m₀ digits i₀ m i = length m ≡ length m₀
 
 abbrev μ-loop : tie.MeasureT-loop
-μ-loop m₀ digits i₀ m i = 8156 - i
+μ-loop m₀ digits i₀ m i = codeLimit - i
 
 cast-put-two : tie.Need-cast-put-two Inv-loop μ-loop
 cast-put-two c = search needs
