@@ -1,20 +1,16 @@
 -- The cases of asking a record over plain variables: which status and which decoding leads to which answer. Assumes nothing.
-use mathlib.Core.Path.{_≡_, refl, sym, ap}
+use mathlib.Core.Path.{_≡_, refl, ap}
 use mathlib.Core.Option.{none, some}
 use Prim.Native.Nat.{ℕ, _-_, _≤_, _<_}
 use native.Mathlib.Omega.{arith}
 use lib.ListN.{List·getD-eq-default}
 use borrow.Author.Tests.{lt-ltb, le-ltb}
-use mir.Syntax.{w16}
-use mir.Val.{Fits}
-use mir.Facts.{fits-of-lt}
 use Rattle.rules.specs.Limits.{recordCount}
 use Rattle.rules.specs.State.{State, Registers, RecordState, free-record, running, waiting, recordAt}
 use Rattle.rules.specs.Refusal.{refused}
 use Rattle.rules.specs.Instruction.{Instruction, decode}
 use Rattle.rules.specs.Ask.{answerTo, askRecord, askEnd, ask}
 use Rattle.rules.specs.Sound.{Sound}
-use Rattle.keeping.proofs.DecodeLaws.{decoded-within}
 use Rattle.registers.specs.declared.records.Status.{Status}
 use Rattle.registers.specs.declared.records.Status.the-variants.{Free, Running, Waiting}
 use Rattle.registers.specs.Registers.{statusOf}
@@ -22,21 +18,14 @@ use Rattle.registers.specs.Registers.{statusOf}
 -- ---- a record that runs
 
 module _ (st : State) (r : ℕ) (g : Registers) (is : recordAt st r ≡ running g) where
-  pub no-instruction : none ≡ decode (st .code) (g .place) → askRecord st r ≡ refused 4
+  pub no-instruction : decode (st .code) (g .place) ≡ none → askRecord st r ≡ refused 4
   unfolding askRecord
-  no-instruction e = rw (is, sym e)
+  no-instruction e = rw (is, e)
 
-  pub an-instruction : (i : Instruction) (next : ℕ) → some (record { instruction = i; next = next }) ≡ decode (st .code) (g .place)
+  pub an-instruction : (i : Instruction) (next : ℕ) → decode (st .code) (g .place) ≡ some (record { instruction = i; next = next })
       → askRecord st r ≡ answerTo st r next g i
   unfolding askRecord
-  an-instruction i next e = rw (is, sym e)
-
--- the place after an instruction fits two bytes
-pub next-fits : (st : State) → Sound st → (place next : ℕ) (i : Instruction)
-    → some (record { instruction = i; next = next }) ≡ decode (st .code) place → Fits w16 next
-next-fits st s place next i e =
-    let inside = decoded-within (st .code) (s .S1 .code-bytes) place _ (sym e) .next-in-code in
-    fits-of-lt (omega (arith, inside, s .S1 .code-within))
+  an-instruction i next e = rw (is, e)
 
 -- ---- any record
 

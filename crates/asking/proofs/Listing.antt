@@ -11,7 +11,10 @@ use lib.Dec.{eqb}
 use borrow.Author.Tests.{ltb-false}
 use Rattle.rules.specs.Refusal.{noCause}
 use Rattle.rules.specs.Instruction as rules
-use Rattle.rules.specs.Instruction.{Name, cst-name, access-name, store-name, add-name, mul-name, leq-name, put-name, get-name, split-name, fork-name, plug-name, close-name, halt-name, same-name, hput-name, hcase-name, run-name, Listing, slots-listed, Form, forms, formIn, formOf, orForm, byteAt, slotsAt, instructionAt, placeAfter, misfits, Decoded, decodedIf, decodeAs, decode}
+use Rattle.rules.specs.Instruction.{Name, cst-name, access-name, store-name, add-name, mul-name, leq-name, put-name, get-name, split-name}
+use Rattle.rules.specs.Instruction.{fork-name, plug-name, close-name, halt-name, same-name, hput-name, hcase-name, run-name}
+use Rattle.rules.specs.Instruction.{Listing, slots-listed, Form, forms, formIn, formOf, orForm}
+use Rattle.rules.specs.Instruction.{byteAt, slotsAt, instructionAt, placeAfter, misfits, Decoded, decodedIf, decodeAs, decode}
 use Rattle.rules.proofs.TestLaws.{no-cause-read}
 use Rattle.code.proofs.Listing.{length-slots}
 use Rattle.code.specs.declared.Instruction.{Instruction}
@@ -185,8 +188,8 @@ module _ (code : List ℕ) (place : ℕ) where
       by-form (some f) q h = fits f (found forms all-forms (byteAt code place 0) f q) (noCause (misfits code place f)) refl h
 
   pub listed-in : (i : Instruction) (next : ℕ)
-      → some (record { instruction = instructionOf code place i; next = next }) ≡ decode code place → ListedIn code place i
-  listed-in (Run p n j) next e = run-within p n j _ (sym e) refl
+      → decode code place ≡ some (record { instruction = instructionOf code place i; next = next }) → ListedIn code place i
+  listed-in (Run p n j) next e = run-within p n j _ e refl
   listed-in (Cst v) next e = tt
   listed-in (Access n) next e = tt
   listed-in Store next e = tt

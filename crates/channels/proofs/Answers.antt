@@ -6,11 +6,9 @@ use Prim.Native.Nat.{ℕ}
 use Rattle.rules.specs.State.{State, Registers as Process, RecordState, running, Item, recordAt, setRecord, endIn}
 use Rattle.rules.specs.Refusal.{Answer, done, NoCause, unless}
 use Rattle.rules.specs.Instruction.{Instruction}
-use Rattle.rules.specs.Causes.{empty, ownCauses, sharedCauses, queueFull}
-use Rattle.rules.specs.RecordStep.{append, waits, lowestFree, after}
+use Rattle.rules.specs.Causes.{empty, ownCauses, queueFull}
+use Rattle.rules.specs.RecordStep.{append, waits}
 use Rattle.rules.specs.Layout.{layout, view}
-use Rattle.rules.specs.Sound.{RegistersWithin, RecordWithin}
-use Rattle.rules.specs.Ask.{answerTo}
 use Rattle.rules.specs.Calls.{layoutOr}
 use Rattle.rules.specs.Numbers.{replyTo}
 use Rattle.rules.specs.Promise.{Promise}
@@ -19,67 +17,24 @@ use Rattle.rules.specs.declared.Reply.the-variants.{Done, Refused}
 use Rattle.keeping.specs.Demand3.{SoundMemory}
 use Rattle.keeping.proofs.LayoutLaws.{Sized}
 use Rattle.registers.specs.declared.Registers.{Registers}
-use Rattle.registers.specs.Registers.{registersOf, registersIn}
 use Rattle.ends.proofs.Changes.{sized-anew}
-use Rattle.causes.specs.Own.{ownReply}
-use Rattle.causes.proofs.Shared.{refused-not-done, own-passed, own-refused, own-done}
-use Rattle.stepping.proofs.Steps.{refused-step, done-step, registers-ok, held-is}
-use Rattle.channels.specs.Appending.{shownBy, HoldsEnd, Runs, unlessFull, Appended, Waited}
+use Rattle.causes.proofs.Shared.{refused-not-done, none-holds}
+use Rattle.stepping.specs.Stepped.{shownBy}
+use Rattle.stepping.proofs.Steps.{done-step, promised-as, memory-sized}
+use Rattle.stepping.proofs.Begun.{Begun, held, shown, shown-passed, passes}
+use Rattle.channels.specs.Appending.{HoldsEnd, Runs, unlessFull, Appended, Waited}
 use Rattle.channels.specs.Splitting.{sharedAnswer, SharedStep}
-use Rattle.channels.proofs.Holding.{shown-within}
-
-pub sized-view : {m : List ℕ} → SoundMemory m → Sized (view m)
-sized-view s = record { records-sized = s .state-sound .S1 .record-count; ends-sized = s .state-sound .S1 .end-count }
 
 -- ---- the rows 5 to 11
 
--- a step has begun: the registers x are loaded from record r of a sound memory, and `causes` replies of them for instruction i
-pub record Begun (m : List ℕ) (r : ℕ) (i : Instruction) (x : Registers) (reply : Reply) : Type 0 where
-  pub sound : SoundMemory m
-  pub load-is : (st : State) → Sized st → RecordWithin (recordAt st r) → m ≡ layout st → x ≡ registersOf (registersIn (recordAt st r))
-  pub reply-is : (g : Process) → RegistersWithin g → x ≡ registersOf g → reply ≡ ownReply g i
-
-pub told : {m : List ℕ} {r : ℕ} {i : Instruction} {x : Registers} {reply reply′ : Reply} → Begun m r i x reply → reply ≡ reply′
-    → Begun m r i x reply′
-told b e = record { sound = b .sound; load-is = b .load-is; reply-is = λ g w q. sym e ∙ b .reply-is g w q }
-
--- 5 to 11 are the answer
-pub own-step : {m : List ℕ} {r : ℕ} {i : Instruction} {x : Registers} {n : ℕ} → Begun m r i x (Refused n) → (next : ℕ) (g : Process)
-    → recordAt (view m) r ≡ running g
-    → Promise (replyTo (answerTo (view m) r next g i)) (layoutOr m (answerTo (view m) r next g i)) (Refused n) m
-own-step {m} {r} {i} {x} {n} b next g is =
-    let here = b .reply-is g (registers-ok m (b .sound) r g is) (held-is m (b .sound) r g is (b .load-is)) in
-    refused-step n (own-refused (view m) r next g i n (sym here))
-
 -- none of them holds
-module _ {m : List ℕ} {r : ℕ} {i : Instruction} {x : Registers} (b : Begun m r i x Done) where
-  -- whatever the record is
-  pub loaded : x ≡ registersOf (shownBy m r)
-  loaded =
-      let within = b .sound .state-sound .S1 .records-within r in
-      b .load-is (view m) (sized-view (b .sound)) within (b .sound .laid-out)
+module _ {m : List ℕ} {r : ℕ} {i : Instruction} {x : Registers} (b : Begun m r i x Done) (c : ℕ)
+    (named : (g : Process) → NoCause (ownCauses g i) → empty c g ≡ false) where
+  pub holds-end : HoldsEnd m x c
+  holds-end = record { owner = r; sound = b .sound; is-loaded = shown b; not-empty = named (shownBy m r) (shown-passed b) }
 
-  pub shown-passed : NoCause (ownCauses (shownBy m r) i)
-  shown-passed = own-passed (shownBy m r) i (sym (b .reply-is (shownBy m r) (shown-within m (b .sound) r) loaded))
-
-  pub holds-end : (c : ℕ) → ((g : Process) → NoCause (ownCauses g i) → empty c g ≡ false) → HoldsEnd m x c
-  holds-end c named = record { owner = r; sound = b .sound; is-loaded = loaded; not-empty = named (shownBy m r) shown-passed }
-
-  -- where it runs with registers g
-  module _ (g : Process) (is : recordAt (view m) r ≡ running g) where
-    here : Done ≡ ownReply g i
-    here = b .reply-is g (registers-ok m (b .sound) r g is) (held-is m (b .sound) r g is (b .load-is))
-
-    pub runs-here : (c : ℕ) → ((g : Process) → NoCause (ownCauses g i) → empty c g ≡ false) → Runs m r x g c
-    runs-here c named = record {
-      runs = is;
-      is-held = held-is m (b .sound) r g is (b .load-is);
-      not-empty = named g (own-passed g i (sym here));
-    }
-
-    pub shared-left : (next : ℕ)
-        → answerTo (view m) r next g i ≡ unless (sharedCauses (view m) g i) (done (after (view m) r next g (lowestFree (view m)) i))
-    shared-left next = own-done (view m) r next g i (sym here)
+  pub runs-here : (g : Process) → recordAt (view m) r ≡ running g → Runs m r x g c
+  runs-here g is = record { runs = is; is-held = held b g is; not-empty = named g (none-holds (ownCauses g i) (passes b g is)) }
 
 -- ---- 13
 
@@ -115,13 +70,13 @@ module _ {m : List ℕ} {g : Process} {c : ℕ} {y : Item} {reply : Reply} {left
       let st = append (view m) (endIn g c) y′ in
       let goes = room-case (queueFull (view m) c g) (append (view m) (endIn g c) y) (setRecord st r z) m (promised Done e) in
       let item-is = ap (λ (i : Item). layout (append (view m) (endIn g c) i)) same in
-      done-step m _ (q ∙ goes .1) (save st (sized-anew (view m) (endIn g c) _ (sized-view s)) (goes .0 ∙ item-is))
+      done-step m _ (q ∙ goes .1) (save st (sized-anew (view m) (endIn g c) _ (memory-sized m s)) (goes .0 ∙ item-is))
 
 pub waited-step : {m : List ℕ} {r : ℕ} {g : Process} {c : ℕ} {reply : Reply} {left : List ℕ} → Waited m r g c reply left
     → {a : Answer State} → a ≡ unlessFull (view m) g c (waits (view m) r g c) → Promise (replyTo a) (layoutOr m a) reply left
-waited-step w q = rw q (w .waited)
+waited-step w q = promised-as _ q (w .waited)
 
 pub shared-step : {m : List ℕ} {r next : ℕ} {g : Process} {i : Instruction} {reply : Reply} {left : List ℕ}
     → SharedStep m r next g i reply left → {a : Answer State} → a ≡ sharedAnswer (view m) r next g i
     → Promise (replyTo a) (layoutOr m a) reply left
-shared-step h q = rw q (h .shared)
+shared-step h q = promised-as _ q (h .shared)

@@ -15,7 +15,7 @@ use Rattle.rules.specs.declared.Reply.the-variants.{Done, Refused}
 use Rattle.keeping.specs.Demand3.{SoundMemory}
 use Rattle.keeping.proofs.LayoutLaws.{Sized}
 use Rattle.registers.specs.declared.Registers.{Registers}
-use Rattle.stepping.proofs.Steps.{refused-step, done-step, sized}
+use Rattle.stepping.proofs.Steps.{refused-step, done-step, memory-sized}
 use Rattle.channels.specs.Appending.{Runs, unlessFull, Appended}
 use Rattle.channels.proofs.Holding.{own}
 
@@ -31,7 +31,7 @@ has-room st g c y f = rw f
 module _ {m : List ℕ} (s : SoundMemory m) {r : ℕ} {x : Registers} {g : Process} {c : ℕ} (h : Runs m r x g c) (e : ℕ) (is : e ≡ endIn g c)
     {q : ℕ} (count : (st : State) → Sized st → m ≡ layout st → q ≡ queueLength (endAt st e)) where
   count-is : q ≡ queueLength (endAt (view m) (endIn g c))
-  count-is = count (view m) (sized m s r g (h .runs)) (s .laid-out) ∙ ap (λ (k : ℕ). queueLength (endAt (view m) k)) is
+  count-is = count (view m) (memory-sized m s) (s .laid-out) ∙ ap (λ (k : ℕ). queueLength (endAt (view m) k)) is
 
   pub full : queueDepth ≤ q → queueFull (view m) c g ≡ true
   full l = le-leb queueDepth _ (subst (λ (k : ℕ). queueDepth ≤ k) count-is l)
@@ -48,6 +48,6 @@ module _ {m : List ℕ} (s : SoundMemory m) {r : ℕ} {x : Registers} {g : Proce
       → Appended m g c y Done left
   item-appended l y written =
       let mine = own s h e is in
-      let w = written (view m) (sized m s r g (h .runs)) (s .laid-out) (mine .in-use) (mine .no-last) in
+      let w = written (view m) (memory-sized m s) (s .laid-out) (mine .in-use) (mine .no-last) in
       let same = ap (λ (k : ℕ). layout (append (view m) k y)) is in
       record { appended = done-step m _ (has-room (view m) g c _ (not-full l)) (w ∙ same) }

@@ -1,6 +1,6 @@
 -- The end in a slot of a record, in a sound memory: it is an end of the state, and that of a running record is in use with nothing last on
 -- its queue. Assumes nothing.
-use mathlib.Core.Path.{_≡_, refl, sym, ap, _∙_}
+use mathlib.Core.Path.{_≡_, refl, ap, _∙_}
 use mathlib.Core.Bool.{false, not}
 use mathlib.Core.Option.{Option, none, some}
 use mathlib.Core.List.{List}
@@ -13,39 +13,18 @@ use Rattle.rules.specs.State.{slotAt, endOr, endIn, isFreeEnd, lastOf}
 use Rattle.rules.specs.Slots.{isHeld}
 use Rattle.rules.specs.Causes.{empty}
 use Rattle.rules.specs.Layout.{noRegisters, view}
-use Rattle.rules.specs.Sound.{RegistersWithin, RecordWithin, heldIn}
+use Rattle.rules.specs.Sound.{RegistersWithin, heldIn}
 use Rattle.rules.proofs.TestLaws.{true-is-not-false}
 use Rattle.rules.proofs.SoundLaws.{slot-counts, held-within}
 use Rattle.keeping.specs.Demand3.{SoundMemory}
-use Rattle.keeping.proofs.Running.{own-end}
 use Rattle.registers.specs.declared.Registers.{Registers}
-use Rattle.registers.specs.declared.process.Held.{Held}
-use Rattle.registers.specs.Registers.{registersOf, registersIn, heldEnd}
-use Rattle.channels.specs.Appending.{shownBy, HoldsEnd, Runs}
-
--- ---- the end that a slot stands for
-
-pub end-is : {h : Held} {o : Option ℕ} → heldEnd h ≡ o → (x : Held) → h ≡ x → endOr endCount (heldEnd x) ≡ endOr endCount o
-end-is e x q = ap (λ (y : Held). endOr endCount (heldEnd y)) (sym q) ∙ ap (endOr endCount) e
+use Rattle.registers.specs.Registers.{registersOf, registersIn}
+use Rattle.stepping.specs.Stepped.{shownBy}
+use Rattle.stepping.proofs.Steps.{shown-within}
+use Rattle.stepping.proofs.OwnEnds.{slot-end}
+use Rattle.channels.specs.Appending.{HoldsEnd, Runs}
 
 -- ---- whatever the record is
-
--- the registers that a record shows are within the limits; a free one shows none
-shown-registers : (x : RecordState) → RecordWithin x → RegistersWithin (registersIn x)
-unfolding noRegisters
-shown-registers free-record w = record {
-  place-within = omega arith;
-  stack-within = omega arith;
-  environment-within = omega arith;
-  stack-values = λ i. omega arith;
-  environment-values = λ i. omega arith;
-  slots-within = refl;
-}
-shown-registers (running g) w = w
-shown-registers (waiting g) w = w
-
-pub shown-within : (m : List ℕ) → SoundMemory m → (r : ℕ) → RegistersWithin (shownBy m r)
-shown-within m s r = shown-registers (recordAt (view m) r) (s .state-sound .S1 .records-within r)
 
 -- a slot that is not empty holds the end that it stands for
 holds-some : (o : Option ℕ) → not (isHeld o) ≡ false → o ≡ some (endOr endCount o)
@@ -83,6 +62,8 @@ pub record Own (st : State) (e : ℕ) : Type 0 where
 pub own : {m : List ℕ} → SoundMemory m → {r : ℕ} {x : Registers} {g : Process} {c : ℕ} → Runs m r x g c → (e : ℕ) → e ≡ endIn g c
     → Own (view m) e
 own {m} s {r} {x} {g} {c} h e is =
-    let some-end = holds-some (slotAt g c) (h .not-empty) ∙ ap some (sym is) in
-    let was = own-end (view m) (s .state-sound) r g (h .runs) c e some-end .was in
-    record { in-use = ap isFreeEnd was; no-last = ap lastOf was }
+    let there = slot-end (view m) (s .state-sound) r g (h .runs) c (h .not-empty) in
+    record {
+      in-use = ap (λ (k : ℕ). isFreeEnd (endAt (view m) k)) is ∙ there .in-use;
+      no-last = ap (λ (k : ℕ). lastOf (endAt (view m) k)) is ∙ ap lastOf (there .was);
+    }

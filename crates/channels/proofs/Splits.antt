@@ -6,10 +6,8 @@ use mathlib.Core.Bool.{true, false}
 use Prim.Native.Nat.{ℕ, _≤_, _<_}
 use native.Mathlib.Omega.{arith}
 use lib.ListN.{length}
-use lib.Seq.{getD-set-other}
-use borrow.Author.Tests.{lt-ltb, le-ltb}
 use Rattle.rules.specs.State.{State, Registers as Process, registers, EndState, free-end, last, split-item, running, endAt, endIn}
-use Rattle.rules.specs.State.{setRecord, setEnd, appended, fresh-end, isFreeEnd, freeEnds}
+use Rattle.rules.specs.State.{setRecord, setEnd, appended, fresh-end, isFreeEnd}
 use Rattle.rules.specs.Slots.{emptied, holding}
 use Rattle.rules.specs.Refusal.{refused, done, unless}
 use Rattle.rules.specs.Instruction.{split}
@@ -23,6 +21,8 @@ use Rattle.ends.specs.declared.word.FourEnds.{FourEnds}
 use Rattle.ends.specs.Words.{endsIn, FourLowest}
 use Rattle.ends.proofs.Changes.{sized-anew}
 use Rattle.ends.proofs.Words.{agrees}
+use Rattle.stepping.proofs.Steps.{other-end}
+use Rattle.stepping.proofs.FreeEnds.{enough-ends}
 use Rattle.channels.specs.Splitting.{FourWithin, sharedAnswer}
 
 -- ---- the state after
@@ -74,23 +74,17 @@ pub record NewEnds (st : State) (new : FourEnds) : Type 0 where
   pub t-is : new .t .0 ≡ lowestFree st .t
   pub free : FourFree st (new .p .0) (new .q .0) (new .s .0) (new .t .0)
 
--- the word of free ends, and how many it names
-module _ (st : State) (z : Sized st) (word : ℕ) (is : word ≡ freeWord (st .ends)) {k : ℕ} (count : k ≡ length (endsIn word)) where
-  count-is : k ≡ length (freeEnds st)
-  count-is = count ∙ agrees st z word is .count
-
-  pub few : k < 4 → fewFreeEnds 4 st ≡ true
-  few l = lt-ltb (length (freeEnds st)) 4 (omega (arith, count-is, l))
-
-  pub new-ends : 4 ≤ k → (new : FourEnds) → FourLowest (endsIn word) new → NewEnds st new
-  new-ends l new four =
-      let a = agrees st z word is in
-      let enough = le-ltb (length (freeEnds st)) 4 (omega (arith, count-is, l)) in
-      let p = four .first ∙ a .first in
-      let q = four .second ∙ a .second in
-      let s = four .third ∙ a .third in
-      let t = four .fourth ∙ a .fourth in
-      record { enough = enough; p-is = p; q-is = q; s-is = s; t-is = t; free = rw (p, q, s, t) (four-free st enough) }
+-- the word of free ends names at least four
+pub new-ends : (st : State) (z : Sized st) (word : ℕ) (is : word ≡ freeWord (st .ends)) {k : ℕ} (count : k ≡ length (endsIn word)) → 4 ≤ k
+    → (new : FourEnds) → FourLowest (endsIn word) new → NewEnds st new
+new-ends st z word is count l new four =
+    let a = agrees st z word is in
+    let enough = enough-ends st z word is count 4 l in
+    let p = four .first ∙ a .first in
+    let q = four .second ∙ a .second in
+    let s = four .third ∙ a .third in
+    let t = four .fourth ∙ a .fourth in
+    record { enough = enough; p-is = p; q-is = q; s-is = s; t-is = t; free = rw (p, q, s, t) (four-free st enough) }
 
 pub new-within : (st : State) → Sized st → (new : FourEnds) → NewEnds st new → FourWithin new
 new-within st z new n =
@@ -105,7 +99,7 @@ new-within st z new n =
 -- ---- ends that stay free
 
 stays-free : (st : State) (e : ℕ) (x : EndState) (p : ℕ) → p ≢ e → endAt st p ≡ free-end → endAt (setEnd st e x) p ≡ free-end
-stays-free st e x p differ h = getD-set-other (st .ends) e p x free-end differ ∙ h
+stays-free st e x p differ h = other-end st e p x differ ∙ h
 
 -- a free end is none in use, so it stays free when one in use is put anew
 beside : (st : State) (e : ℕ) (x : EndState) (p : ℕ) → isFreeEnd (endAt st e) ≡ false → endAt st p ≡ free-end

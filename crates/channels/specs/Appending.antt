@@ -14,11 +14,8 @@ use Rattle.rules.specs.Promise.{Promise}
 use Rattle.rules.specs.declared.Reply.{Reply}
 use Rattle.keeping.specs.Demand3.{SoundMemory}
 use Rattle.registers.specs.declared.Registers.{Registers}
-use Rattle.registers.specs.Registers.{registersOf, registersIn}
-
--- the registers that the record numbered r shows in memory m
-abbrev pub shownBy : List ℕ → (r : ℕ) → Process
-shownBy m r = registersIn (recordAt (view m) r)
+use Rattle.registers.specs.Registers.{registersOf}
+use Rattle.stepping.specs.Stepped.{shownBy}
 
 -- in a sound memory, `held` are the registers of a record, and its slot c holds an end
 pub record HoldsEnd (m : List ℕ) (held : Registers) (c : ℕ) : Type 0 where

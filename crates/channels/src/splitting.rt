@@ -20,7 +20,6 @@ ghost use Rattle.ends.specs.Sections.{countIn};
 ghost use Rattle.stepping.specs.Stepped.{Stepped};
 ghost use Rattle.channels.specs.Appending.{HoldsEnd, Runs};
 ghost use Rattle.channels.specs.Splitting.{FourWithin, SharedStep};
-use crate::queue;
 use ends::Item;
 use ends::word;
 use ends::word::FourEnds;
@@ -77,7 +76,7 @@ fn split_at(m: &mut [u8], r: Record, held: Registers, c: Slot, a: Slot, b: Slot,
     ensures { λ x. ⌜ ((g : Process) → Runs (now (m .entry)) (recordNumber r) held g (slotNumber c)
         → SharedStep (now (m .entry)) (recordNumber r) next g (splitOf (slotNumber c) (slotNumber a) (slotNumber b)) x (now (m .exit))) ⌝ }
 {
-    let end = queue::own_end(held, c);
+    let end = stepping::own_end(held, c);
     if QUEUE_DEPTH <= ends::queued(m, end) as usize {
         return Reply::Refused(QUEUE_FULL);
     }

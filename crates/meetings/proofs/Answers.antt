@@ -1,28 +1,18 @@
 -- Which test leads to which answer at an end, over plain variables: 16 to 19 in their order, or the state after. Assumes nothing.
-use mathlib.Core.Path.{_≡_, sym, subst}
+use mathlib.Core.Path.{_≡_, subst}
 use mathlib.Core.Bool.{true, false}
 use mathlib.Core.Option.{none, some}
-use mathlib.Core.List.{List}
 use Prim.Native.Nat.{ℕ}
 use lib.Dec.{leb}
 use Rattle.rules.specs.Limits.{endCount}
 use Rattle.rules.specs.State.{State, Datum, Item, Registers, running, endAt, setRecord, setEnd, headOf, behindHead, isFreeEnd}
 use Rattle.rules.specs.State.{lowestFreeRecord}
-use Rattle.rules.specs.Refusal.{Answer, refused, done, unless}
+use Rattle.rules.specs.Refusal.{refused, done, unless}
 use Rattle.rules.specs.Causes.{noFreeRecord}
 use Rattle.rules.specs.RecordStep.{partnerIn}
 use Rattle.rules.specs.EndStep.{Meeting, mismatch, delivers, divides, closes, meetHeads, meeting, freed, endCauses, afterMeeting}
 use Rattle.rules.specs.Ask.{askEnd}
-use Rattle.rules.specs.Calls.{layoutOr}
-use Rattle.rules.specs.Numbers.{replyTo}
-use Rattle.rules.specs.Promise.{Promise}
-use Rattle.rules.specs.declared.Reply.{Reply}
 use Rattle.meetings.specs.Stepped.{askMet}
-
--- a promise is one about an equal answer
-pub promised-as : {a b : Answer State} (m : List ℕ) {reply : Reply} {left : List ℕ} → a ≡ b
-    → Promise (replyTo b) (layoutOr m b) reply left → Promise (replyTo a) (layoutOr m a) reply left
-promised-as m {reply} {left} q p = subst (λ (x : Answer State). Promise (replyTo x) (layoutOr m x) reply left) (sym q) p
 
 -- ---- once both heads are there
 

@@ -1,41 +1,27 @@
--- The changes that a step at an end makes, one after the other, and what a sound state says of the ends and of the new record that they are
--- about. Assumes nothing.
+-- The changes that a step at an end makes, one after the other, and what a sound state says of the ends that they are about. Assumes
+-- nothing.
 use mathlib.Core.Path.{_≡_, refl, sym, ap, _∙_, subst}
 use mathlib.Core.Logic.{_≢_}
-use mathlib.Core.Bool.{Bool, true, false}
+use mathlib.Core.Bool.{false}
 use mathlib.Core.Option.{some}
-use mathlib.Core.List.{List, [], _∷_}
-use Prim.Native.Nat.{ℕ, _≤_, _<_}
+use mathlib.Core.List.{[]}
+use Prim.Native.Nat.{ℕ, _<_}
 use native.Mathlib.Decide.{ℕ-discrete}
 use native.Mathlib.Omega.{arith}
-use lib.ListN.{length, getD, length-set}
-use lib.Seq.{getD-set-same, getD-set-other}
-use borrow.Author.Tests.{ne-eqb}
-use Rattle.rules.specs.Limits.{recordCount, endCount}
-use Rattle.rules.specs.State.{State, Datum, Last, split-item, Item, datum, last, EndState, free-end, used, RecordState}
-use Rattle.rules.specs.State.{endAt, setEnd, setRecord, endOr, headOf, dataOf, partnerOf, isFreeEnd, freeRecords, lowestFreeRecord}
-use Rattle.rules.specs.Causes.{noFreeRecord}
+use lib.ListN.{length}
+use lib.Seq.{getD-set-same}
+use Rattle.rules.specs.Limits.{endCount}
+use Rattle.rules.specs.State.{State, Datum, Last, split-item, Item, datum, last, EndState, free-end, used}
+use Rattle.rules.specs.State.{endAt, setEnd, endOr, headOf, dataOf, partnerOf, isFreeEnd}
 use Rattle.rules.specs.RecordStep.{partnerIn}
 use Rattle.rules.specs.Sound.{inLast, Sound}
 use Rattle.rules.proofs.CountLaws.{δ-same}
 use Rattle.rules.proofs.SoundLaws.{carried-within}
 use Rattle.rules.proofs.TestLaws.{true-is-not-false}
-use Rattle.keeping.proofs.LayoutLaws.{Sized}
-use Rattle.keeping.proofs.FreeLaws.{record-free}
 use Rattle.keeping.proofs.Running.{used-in-list}
 use Rattle.keeping.proofs.Joining.{partner-of}
+use Rattle.stepping.proofs.Steps.{other-end}
 use Rattle.meetings.proofs.Pairs.{last-is}
-
--- the lists keep their lengths
-pub sized-end : {st : State} → Sized st → (e : ℕ) (x : EndState) → Sized (setEnd st e x)
-sized-end {st} k e x = record { records-sized = k .records-sized; ends-sized = length-set (st .ends) e x ∙ k .ends-sized }
-
-pub sized-record : {st : State} → Sized st → (r : ℕ) (x : RecordState) → Sized (setRecord st r x)
-sized-record {st} k r x = record { records-sized = length-set (st .records) r x ∙ k .records-sized; ends-sized = k .ends-sized }
-
--- another end stays
-pub other-end : (st : State) (e f : ℕ) (x : EndState) → e ≢ f → endAt (setEnd st e x) f ≡ endAt st f
-other-end st e f x differ = getD-set-other (st .ends) e f x free-end (λ z. differ (sym z))
 
 -- no data here stays so when another end, or this one, is freed
 pub no-data-still : (st : State) (e f : ℕ) → e < length (st .ends) → dataOf (endAt st f) ≡ [] → dataOf (endAt (setEnd st e free-end) f) ≡ []
@@ -43,7 +29,7 @@ no-data-still st e f within h = go (ℕ-discrete e f)
   where
     go : Dec (e ≡ f) → dataOf (endAt (setEnd st e free-end) f) ≡ []
     go (yes q) = ap dataOf (ap (endAt (setEnd st e free-end)) (sym q) ∙ getD-set-same (st .ends) e free-end free-end within)
-    go (no n) = ap dataOf (other-end st e f free-end n) ∙ h
+    go (no n) = ap dataOf (other-end st e f free-end (λ z. n (sym z))) ∙ h
 
 -- ---- ends that a step at an end is about
 
@@ -82,19 +68,3 @@ partner-shown st s e h {f} q = go (endAt st e) refl
         let there = partner-of st s e m ds l was in
         let in-list = used-in-list st m e (there .queued) (there .final) (there .was) in
         (here ∙ sym (ap (λ (y : EndState). endOr endCount (partnerOf y)) was), omega (arith, here, in-list, s .S1 .end-count))
-
--- ---- the record for a second branch
-
-pub no-record : (st : State) → Sound st → recordCount ≤ lowestFreeRecord st → noFreeRecord st ≡ true
-no-record st s h = go (noFreeRecord st) refl
-  where
-    go : (b : Bool) → noFreeRecord st ≡ b → noFreeRecord st ≡ true
-    go true q = q
-    go false q = absurd (omega (arith, h, record-free st q .in-list, s .S1 .record-count))
-
-pub some-record : (st : State) → lowestFreeRecord st < recordCount → noFreeRecord st ≡ false
-some-record st h = go (freeRecords st) refl
-  where
-    go : (l : List ℕ) → freeRecords st ≡ l → noFreeRecord st ≡ false
-    go [] q = absurd (omega (arith, h, ap (λ (l : List ℕ). getD l 0 recordCount) q))
-    go (r ∷ l) q = ne-eqb (length (freeRecords st)) 0 (λ z. omega (arith, ap length q, z))

@@ -1,64 +1,17 @@
--- What the decoder's answer says of the state's code: the instruction there, the place after it within two bytes, and what a record at
--- that place wants. Assumes nothing.
-use mathlib.Core.Path.{_≡_, refl, sym, ap, subst}
-use mathlib.Core.Option.{none, some}
+-- An instruction that no record waits at: all but get, fork and hcase. Assumes nothing.
+use mathlib.Core.Path.{_≡_, refl}
+use mathlib.Core.Option.{none}
 use mathlib.Core.List.{List, [], _∷_}
-use Prim.Native.Nat.{ℕ, _≤_, _<_}
-use native.Mathlib.Decide.{decLe}
-use native.Mathlib.Omega.{arith}
-use lib.ListN.{length, take, drop, length-drop}
-use lib.Seq.{take-all, length-take-le}
+use Prim.Native.Nat.{ℕ}
 use denote.Enum.Declared.{tagOf}
 use types.Run.{OneOf, miss}
-use Rattle.rules.specs.Limits.{codeLimit, placeCount}
-use Rattle.rules.specs.Bytes.{numberAt}
-use Rattle.rules.specs.Instruction.{Decoded as RulesDecoded, decode}
 use Rattle.rules.specs.EndStep.{waitOf}
-use Rattle.rules.specs.Layout.{view}
-use Rattle.keeping.specs.Demand3.{SoundMemory}
-use Rattle.keeping.proofs.Memories.{memory-length}
-use Rattle.keeping.proofs.DecodeLaws.{decoded-within}
 use Rattle.code.specs.declared.Instruction.{Instruction}
 use Rattle.code.specs.declared.Instruction.the-variants.{Cst, Access, Store, Add, Mul, Leq, Put, Get, Split, Fork}
 use Rattle.code.specs.declared.Instruction.the-variants.{Plug, Close, Halt, Same, Hput, Hcase, Run}
-use Rattle.code.specs.declared.Decoded.{Decoded}
-use Rattle.code.specs.declared.Decoded.the-variants.{Good, Bad}
-use Rattle.code.specs.Meaning.{instructionOf, meaning}
+use Rattle.code.specs.Meaning.{instructionOf}
 use Rattle.code.proofs.Instruction.{the-type}
 use Rattle.meetings.specs.Wanted.{wantedBy}
-
--- ---- the code of a sound memory
-
-pub code-length : (m : List ℕ) → SoundMemory m → numberAt 2 m 0 ≤ codeLimit
-unfolding view
-code-length m s =
-    let n = numberAt 2 m 0 in
-    let rest = drop 2 m in
-    let within : length (take n rest) ≤ codeLimit = s .state-sound .S1 .code-within in
-    let size = memory-length m s in
-    elim (decLe n (length rest)) [
-      | yes h ↦ omega (arith, length-take-le n rest h, within)
-      | no h ↦ absurd (omega (arith, ap length (take-all n rest (omega (arith, h))), within, length-drop 2 m, size))
-    ]
-
--- ---- what was decoded
-
-module _ (code there : List ℕ) (place : ℕ) (answer : Decoded) (same : there ≡ code)
-    (right : meaning there place answer ≡ decode there place) where
-  pub decoded-good : {i : Instruction} {next : ℕ} → answer ≡ Good i next
-      → decode code place ≡ some (record { instruction = instructionOf code place i; next = next })
-  decoded-good {i} {next} q = sym (subst (λ (l : List ℕ). meaning l place (Good i next) ≡ decode l place) same (rw q at right))
-
-  pub decoded-bad : answer ≡ Bad → decode code place ≡ none
-  decoded-bad q = sym (subst (λ (l : List ℕ). meaning l place Bad ≡ decode l place) same (rw q at right))
-
--- the place after an instruction has two bytes
-pub next-small : (m : List ℕ) → SoundMemory m → (place : ℕ) (d : RulesDecoded) → decode (view m .code) place ≡ some d → d .next < placeCount
-next-small m s place d h =
-    let w = s .state-sound .S1 in
-    omega (arith, decoded-within (view m .code) (w .code-bytes) place d h .next-in-code, w .code-within)
-
--- ---- an instruction that no record waits at
 
 -- the tags of all instructions but get, fork and hcase
 abbrev pub others : List ℕ

@@ -19,13 +19,14 @@ use Rattle.rules.specs.Causes.{ownCauses}
 use Rattle.rules.specs.EndStep.{Wanted, a-value, a-handle, a-split, Wait, waitOf, decodedWait, waiterWith, waiterIn}
 use Rattle.rules.specs.EndStep.{Meeting, mismatch, delivers, meetDatum, meetSplit, datumAgainst, splitAgainst}
 use Rattle.rules.specs.Sound.{RegistersWithin, RecordWithin}
-use Rattle.rules.specs.Layout.{layout, view}
+use Rattle.rules.specs.Layout.{view}
 use Rattle.keeping.specs.Demand3.{SoundMemory}
-use Rattle.keeping.proofs.LayoutLaws.{Sized}
 use Rattle.keeping.proofs.Running.{waiting-in-list}
 use Rattle.registers.specs.declared.Registers.{Registers}
 use Rattle.registers.specs.Registers.{registersOf, registersIn, movedTo}
+use Rattle.registers.proofs.Fields.{by-fields}
 use Rattle.code.proofs.Listing.{length-places, listed-place}
+use Rattle.stepping.proofs.Steps.{Loads, loaded}
 use Rattle.meetings.specs.declared.wanted.Wanted.{Wanted as Answer}
 use Rattle.meetings.specs.declared.wanted.Wanted.the-variants.{Nothing, Value as Value′, Handle, Split}
 use Rattle.meetings.specs.Heads.{DatumWaits}
@@ -101,16 +102,9 @@ module _ (m : List ℕ) (s : SoundMemory m) where
     waits-there to r (h .wait-heads) .in-list,
   )
 
-  pub sized : Sized (view m)
-  sized = record { records-sized = s .state-sound .S1 .record-count; ends-sized = s .state-sound .S1 .end-count }
-
-  -- what `load` promises, of this memory
-  held-is : (r : ℕ) (w : Waits (view m) r) {x : Registers}
-      → ((st : State) → Sized st → RecordWithin (recordAt st r) → m ≡ layout st → x ≡ registersOf (registersIn (recordAt st r)))
-      → x ≡ registersOf (w .held)
-  held-is r w f =
-      f (view m) sized (s .state-sound .S1 .records-within r) (s .laid-out)
-      ∙ ap (λ (y : RecordState). registersOf (registersIn y)) (w .is)
+  -- the registers that are loaded
+  held-is : (r : ℕ) (w : Waits (view m) r) {x : Registers} → Loads m r x → x ≡ registersOf (w .held)
+  held-is r w f = loaded m s r f ∙ ap (λ (y : RecordState). registersOf (registersIn y)) (w .is)
 
 -- ---- a datum or a split against what is wanted
 
@@ -149,21 +143,18 @@ pub record Found (st : State) (r : ℕ) (x : Registers) (answer : Answer) : Type
   pub loaded : x ≡ registersOf (waits .held)
   pub wanted-is : wantedAt (st .code) (waits .held .place) ≡ wantedOf (st .code) (waits .held .place) answer
 
-pub place-is : (g : Process) {x : Registers} → x ≡ registersOf g → x .place ≡ g .place
-unfolding registersOf
-place-is g e = ap (λ (y : Registers). y .place) e
-
 pub found : (m : List ℕ) → SoundMemory m → (to r : ℕ) → headOf (endAt (view m) to) ≡ some (last (wait-item r))
     → (x : Registers) (answer : Answer)
-    → ((st : State) → Sized st → RecordWithin (recordAt st r) → m ≡ layout st → x ≡ registersOf (registersIn (recordAt st r)))
-    → wantedOf (view m .code) (x .place) answer ≡ wantedAt (view m .code) (x .place) → Found (view m) r x answer
+    → Loads m r x → wantedOf (view m .code) (x .place) answer ≡ wantedAt (view m .code) (x .place) → Found (view m) r x answer
 found m s to r h x answer f q =
     let w = waits-there m s to r h in
     let e = held-is m s r w f in
     record {
       waits = w;
       loaded = e;
-      wanted-is = sym (subst (λ (p : ℕ). wantedOf (view m .code) p answer ≡ wantedAt (view m .code) p) (place-is (w .held) e) q);
+      wanted-is =
+          let here = by-fields (w .held) e .place-is in
+          sym (subst (λ (p : ℕ). wantedOf (view m .code) p answer ≡ wantedAt (view m .code) p) here q);
     }
 
 module _ (st : State) (r : ℕ) {x : Registers} {answer : Answer} (f : Found st r x answer) where

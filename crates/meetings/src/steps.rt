@@ -69,7 +69,7 @@ fn deliver_handle(m: &mut [u8], lengths: &[u8; 256], from: End, to: End, n: u8, 
     if k <= n {
         return Reply::Refused(HEADS_MISMATCH);
     }
-    let place = code::case_place(memory::code(m), held.place as usize, n);
+    let place = code::case_place(stepping::code(m), held.place as usize, n);
     take_both(m, from, to, r, held.at(place));
     Reply::Done
 }

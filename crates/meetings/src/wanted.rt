@@ -59,7 +59,7 @@ pub fn wanted_at(m: &[u8], lengths: &[u8; 256], place: u16) -> Wanted
     ensures { λ r. ⌜ wantedOf (view (now (m .entry)) .code) place r
         ≡ wantedBy (decodedWait (decodedByRules (view (now (m .entry)) .code) place)) ⌝ }
 {
-    match code::decode(lengths, memory::code(m), place as usize) {
+    match code::decode(lengths, stepping::code(m), place as usize) {
         Decoded::Good(instruction, next) => wanted_by(instruction, next as u16),
         Decoded::Bad => Wanted::Nothing,
     }

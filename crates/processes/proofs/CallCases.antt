@@ -13,8 +13,7 @@ use Rattle.rules.specs.Ask.{answerTo}
 use Rattle.rules.specs.declared.Reply.the-variants.{Done}
 use Rattle.registers.specs.Registers.{called}
 use Rattle.causes.specs.Own.{ownReply}
-use Rattle.causes.proofs.Shared.{own-done}
-use Rattle.processes.proofs.Own.{none-holds}
+use Rattle.causes.proofs.Shared.{none-holds, own-done}
 
 module _ (g : Registers) (place n : ℕ) (cs : List ℕ) (passes : ownReply g (run place n cs) ≡ Done) where
   -- there are n values

@@ -1,4 +1,5 @@
--- same over plain variables: which ends stand in its two slots, what its rows say of them, and the state with the two joined. Assumes nothing.
+-- same over plain variables: which ends stand in its two slots, what its rows say of them, and the state with the two joined. Assumes
+-- nothing.
 use mathlib.Core.Path.{_≡_, refl, sym, ap, _∙_, subst}
 use mathlib.Core.Logic.{_≢_}
 use mathlib.Core.Bool.{false}
@@ -7,13 +8,13 @@ use mathlib.Core.List.{List, [], _∷_}
 use Prim.Native.Nat.{ℕ, _<_}
 use native.Mathlib.Omega.{arith}
 use lib.Dec.{ltb}
-use lib.Seq.{getD-set-other}
 use borrow.Author.Tests.{eqb-false, ltb-false}
 use Rattle.rules.specs.Limits.{endCount}
-use Rattle.rules.specs.State.{State, Datum, Last, EndState, free-end, used, Registers, free-record, running, recordAt, endAt, setRecord, setEnd, slotAt, endIn, endOr, isFreeEnd, queueLength, dataOf, partnerOf, withPartner}
+use Rattle.rules.specs.State.{State, Datum, Last, EndState, free-end, used, Registers, free-record, running, recordAt, endAt, setRecord}
+use Rattle.rules.specs.State.{setEnd, endIn, endOr, isFreeEnd, queueLength, dataOf, partnerOf, withPartner}
 use Rattle.rules.specs.Refusal.{refused, done, NoCause}
 use Rattle.rules.specs.Instruction.{same}
-use Rattle.rules.specs.Causes.{empty, names, ownCauses, sharedCauses}
+use Rattle.rules.specs.Causes.{names, ownCauses, sharedCauses}
 use Rattle.rules.specs.RecordStep.{lowestFree, after, partnerIn, joined}
 use Rattle.rules.specs.Ask.{answerTo}
 use Rattle.rules.specs.Count.{δ}
@@ -21,54 +22,29 @@ use Rattle.rules.specs.Sound.{inSlot, heldIn, inUse, placesOf, Sound}
 use Rattle.rules.specs.declared.Reply.the-variants.{Done, Refused}
 use Rattle.rules.proofs.CountLaws.{δ-same, total-one, total-two}
 use Rattle.keeping.proofs.LayoutLaws.{Sized}
-use Rattle.keeping.proofs.SlotLaws.{held-slot}
-use Rattle.keeping.proofs.Running.{own-end, used-in-list}
+use Rattle.keeping.proofs.Running.{used-in-list}
 use Rattle.keeping.proofs.Joining.{PartnerOf, partner-of}
 use Rattle.ends.proofs.Changes.{sized-anew}
 use Rattle.causes.specs.Own.{ownReply}
-use Rattle.causes.proofs.Shared.{own-done}
+use Rattle.causes.proofs.Shared.{none-holds, one-holds, goes-on, own-done}
+use Rattle.stepping.proofs.Steps.{other-end}
+use Rattle.stepping.proofs.OwnEnds.{SlotEnd, slot-end}
 use Rattle.processes.specs.Joinable.{sharedReply, Joinable}
-use Rattle.processes.proofs.Own.{none-holds, one-holds, through}
 
--- ---- the end in a slot that is not empty
-
-pub record SlotEnd (st : State) (g : Registers) (c : ℕ) : Type 0 where
-  pub holds : slotAt g c ≡ some (endIn g c)
-  pub partner : ℕ
-  pub queued : List Datum
-  pub was : endAt st (endIn g c) ≡ used partner queued none
-  pub in-range : endIn g c < endCount
-  pub in-use : isFreeEnd (endAt st (endIn g c)) ≡ false
+-- ---- same c d, with none of the rows 5 to 11 holding
 
 module _ (st : State) (s : Sound st) (r : ℕ) (g : Registers) (is : recordAt st r ≡ running g) where
-  pub slot-end : (c : ℕ) → empty c g ≡ false → SlotEnd st g c
-  slot-end c h =
-      let held = held-slot (slotAt g c) h in
-      let own = own-end st s r g is c (held .0) (held .1) in
-      let named : held .0 ≡ endIn g c = sym (ap (endOr endCount) (held .1)) in
-      let was = ap (endAt st) (sym named) ∙ own .was in
-      record {
-        holds = held .1 ∙ ap some named;
-        partner = own .partner;
-        queued = own .queued;
-        was = was;
-        in-range = omega (arith, named, used-in-list st (held .0) (own .partner) (own .queued) none (own .was), s .S1 .end-count);
-        in-use = ap isFreeEnd was;
-      }
-
-  -- ---- same c d, with none of the rows 5 to 11 holding
-
   module _ (c d : ℕ) (passes : ownReply g (same c d) ≡ Done) where
     own : NoCause (ownCauses g (same c d))
     own = none-holds (ownCauses g (same c d)) passes
 
     pub first-end : SlotEnd st g c
     unfolding ownCauses
-    first-end = slot-end c (own .1 .1 .0)
+    first-end = slot-end st s r g is c (own .1 .1 .0)
 
     pub second-end : SlotEnd st g d
     unfolding ownCauses
-    second-end = slot-end d (own .1 .1 .1 .0)
+    second-end = slot-end st s r g is d (own .1 .1 .1 .0)
 
     -- one end is in one slot
     two-ends : c ≢ d → endIn g c ≢ endIn g d
@@ -112,7 +88,7 @@ module _ (st : State) (s : Sound st) (r : ℕ) (g : Registers) (is : recordAt st
 
     pub same-done : (next : ℕ) → sharedReply st g (same c d) ≡ Done
         → answerTo st r next g (same c d) ≡ done (after st r next g (lowestFree st) (same c d))
-    same-done next e = own-done st r next g (same c d) passes ∙ through (sharedCauses st g (same c d)) _ e
+    same-done next e = own-done st r next g (same c d) passes ∙ goes-on (sharedCauses st g (same c d)) _ e
 
 -- ---- the state with two ends joined
 
@@ -153,14 +129,11 @@ module _ (st : State) (s : Sound st) (x y : ℕ) (j : Joinable st x y) (u v : �
   abbrev half : State
   half = setEnd without u (withPartner v (endAt without u))
 
-  other : (st : State) (e k : ℕ) (z : EndState) → k ≢ e → endAt (setEnd st e z) k ≡ endAt st k
-  other st e k z n = getD-set-other (st .ends) e k z free-end n
-
   u-stays : endAt without u ≡ endAt st u
-  u-stays = other (setEnd st x free-end) y u free-end uy ∙ other st x u free-end (ux .differs)
+  u-stays = other-end (setEnd st x free-end) y u free-end uy ∙ other-end st x u free-end (ux .differs)
 
   v-stays : endAt half v ≡ endAt st v
-  v-stays = other without u v _ vu ∙ other (setEnd st x free-end) y v free-end (vy .differs) ∙ other st x v free-end vx
+  v-stays = other-end without u v _ vu ∙ other-end (setEnd st x free-end) y v free-end (vy .differs) ∙ other-end st x v free-end vx
 
   pub record Joins : Type 0 where
     pub x-in-range : x < endCount
@@ -183,7 +156,7 @@ module _ (st : State) (s : Sound st) (x y : ℕ) (j : Joinable st x y) (u v : �
     u-in-range = in-ends u x _ _ (ux .was);
     v-in-range = in-ends v y _ _ (vy .was);
     x-empty = ap dataOf x-was;
-    y-empty = ap dataOf (other st x y free-end (λ z. j .differ (sym z)) ∙ y-was);
+    y-empty = ap dataOf (other-end st x y free-end (λ z. j .differ (sym z)) ∙ y-was);
     u-used = ap isFreeEnd (u-stays ∙ ux .was);
     v-used = ap isFreeEnd (v-stays ∙ vy .was);
     joined-is =

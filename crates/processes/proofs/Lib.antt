@@ -1,5 +1,4 @@
 pub mod Listed
-pub mod Own
 pub mod CallCases
 pub mod PlugCases
 pub mod JoinCases

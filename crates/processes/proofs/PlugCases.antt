@@ -4,9 +4,9 @@ use mathlib.Core.Logic.{_≢_}
 use mathlib.Core.Bool.{true, false}
 use Prim.Native.Nat.{ℕ, _<_}
 use native.Mathlib.Omega.{arith}
-use lib.ListN.{getD, length-set, drop}
+use lib.ListN.{getD, drop}
 use Rattle.rules.specs.Limits.{recordCount, endCount}
-use Rattle.rules.specs.State.{State, Registers, RecordState, running, free-end, endAt, setRecord}
+use Rattle.rules.specs.State.{State, Registers, running, free-end, endAt, setRecord}
 use Rattle.rules.specs.Refusal.{refused, done, unless}
 use Rattle.rules.specs.Instruction.{plug}
 use Rattle.rules.specs.Causes.{fewFreeEnds, noFreeRecord, sharedCauses}
@@ -26,9 +26,9 @@ use Rattle.processes.specs.Spare.{Spare}
 -- ---- answers
 
 module _ (st : State) (r next : ℕ) (g : Registers) (a m place m′ place′ : ℕ) (passes : ownReply g (plug a m place m′ place′) ≡ Done) where
-  pub few-ends : fewFreeEnds 2 st ≡ true → answerTo st r next g (plug a m place m′ place′) ≡ refused 15
+  pub too-few-ends : fewFreeEnds 2 st ≡ true → answerTo st r next g (plug a m place m′ place′) ≡ refused 15
   unfolding sharedCauses unless
-  few-ends t = own-done st r next g (plug a m place m′ place′) passes ∙ rw t
+  too-few-ends t = own-done st r next g (plug a m place m′ place′) passes ∙ rw t
 
   pub no-free-record : fewFreeEnds 2 st ≡ false → noFreeRecord st ≡ true → answerTo st r next g (plug a m place m′ place′) ≡ refused 15
   unfolding sharedCauses unless
@@ -40,9 +40,6 @@ module _ (st : State) (r next : ℕ) (g : Registers) (a m place m′ place′ : 
   plugged f n = own-done st r next g (plug a m place m′ place′) passes ∙ rw (f, n)
 
 -- ---- what is free
-
-pub sized-record : (st : State) (r : ℕ) (x : RecordState) → Sized st → Sized (setRecord st r x)
-sized-record st r x z = record { records-sized = length-set (st .records) r x ∙ z .records-sized; ends-sized = z .ends-sized }
 
 pub sized-paired : (st : State) (p q : ℕ) → Sized st → Sized (paired st p q)
 sized-paired st p q z = sized-anew _ q _ (sized-anew st p _ z)

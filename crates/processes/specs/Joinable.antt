@@ -2,20 +2,15 @@
 use mathlib.Core.Path.{_≡_}
 use mathlib.Core.Logic.{_≢_}
 use mathlib.Core.Option.{none}
-use mathlib.Core.List.{List, []}
+use mathlib.Core.List.{[]}
 use Prim.Native.Nat.{ℕ}
 use Rattle.rules.specs.State.{State, Registers, used, endAt}
-use Rattle.rules.specs.Refusal.{Row, done, unless}
 use Rattle.rules.specs.Instruction.{Instruction}
 use Rattle.rules.specs.Causes.{sharedCauses}
-use Rattle.rules.specs.Numbers.{replyTo}
 use Rattle.rules.specs.declared.Reply.{Reply}
+use Rattle.causes.specs.Own.{rowsReply}
 
--- the number of the first row that holds, or done
-abbrev pub rowsReply : List Row → Reply
-rowsReply rows = replyTo (unless {A = Unit {0}} rows (done tt))
-
--- the same of the rows 12 to 15
+-- the number of the first of the rows 12 to 15 that holds, or done
 abbrev pub sharedReply : State → Registers → Instruction → Reply
 sharedReply st g i = rowsReply (sharedCauses st g i)
 

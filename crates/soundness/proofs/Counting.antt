@@ -14,6 +14,8 @@ use Rattle.rules.specs.State.{Last, split-item, close-item, wait-item}
 use Rattle.rules.specs.Count.{δ, total}
 use Rattle.rules.specs.Sound.{inSlot, inLast, namedByLast}
 use Rattle.rules.proofs.CountLaws.{δ-same, δ-ne, δ-le}
+use Rattle.soundness.specs.declared.lasts.Last.{Last as Kept}
+use Rattle.soundness.specs.Lasts.{lastMeaning}
 use Rattle.soundness.specs.Counts.{Below, Added, Counted}
 
 -- ---- sums
@@ -67,6 +69,11 @@ name-few r (some (wait-item k)) = δ-le r k
 
 pub added-none : (n : ℕ) (f : ℕ → ℕ) (l : List ℕ) → ((k : ℕ) → f k ≡ 0) → Added n f l l
 added-none n f l z = record { added = λ k h. omega (arith, z k) }
+
+-- a last item that counts for nothing, once the code knows which it is
+pub added-nothing : (n : ℕ) (f : ℕ → Option Last → ℕ) (l : List ℕ) {last x : Kept} → last ≡ x → ((k : ℕ) → f k (lastMeaning x) ≡ 0)
+    → Added n (λ (k : ℕ). f k (lastMeaning last)) l l
+added-nothing n f l is z = record { added = λ k h. omega (arith, ap (λ (y : Kept). f k (lastMeaning y)) is, z k) }
 
 pub added-one : (n at : ℕ) (l : List ℕ) {l′ : List ℕ} → length l ≡ n → at < n → l′ ≡ set l at (getD l at 0 + 1)
     → Added n (λ (k : ℕ). δ k at) l l′

@@ -12,14 +12,14 @@ use denote.Enum.Declared.{tagOf}
 use types.Run.{OneOf, miss}
 use Rattle.rules.specs.Limits.{codeLimit}
 use Rattle.rules.specs.State.{State, Registers as Process, RecordState, free-record, running, waiting, recordAt, slotAt, endAt, lastOf}
-use Rattle.rules.specs.Refusal.{Row, done, unless, noCause}
+use Rattle.rules.specs.Refusal.{Row, unless, noCause}
 use Rattle.rules.specs.Instruction as rules
 use Rattle.rules.specs.Causes.{ownCauses, names}
 use Rattle.rules.specs.EndStep.{waitOf, onlyIf}
 use Rattle.rules.specs.Sound.{Within, RegistersWithin, RecordWithin}
 use Rattle.rules.specs.SoundTest.{standsNamed, standsDecoded, standsIn, standsLast, standsTest}
 use Rattle.rules.specs.Layout.{stateSize, layout, view}
-use Rattle.rules.specs.Numbers.{slotNumber, recordNumber, replyTo}
+use Rattle.rules.specs.Numbers.{slotNumber, recordNumber}
 use Rattle.rules.specs.declared.Slot.{Slot}
 use Rattle.rules.specs.declared.Record.{Record}
 use Rattle.rules.specs.declared.Reply.{Reply}
@@ -39,7 +39,7 @@ use Rattle.registers.specs.declared.records.Status.{Status}
 use Rattle.registers.specs.declared.records.Status.the-variants.{Waiting}
 use Rattle.registers.specs.Registers.{registersIn, statusOf, heldEnd}
 use Rattle.registers.proofs.records.Status as status
-use Rattle.causes.specs.Own.{ownReply}
+use Rattle.causes.specs.Own.{rowsReply, ownReply}
 use Rattle.canonical.specs.Canonical.{codeLength, canonicalCode, canonicalBytes}
 use Rattle.canonical.proofs.Memory.{canonical-from}
 use Rattle.soundness.specs.declared.lasts.Last.{Last}
@@ -71,13 +71,13 @@ slot-names x e s k = ap (λ (y : Held). names (heldEnd y) e) (sym k) ∙ ap (λ 
 -- ---- the own causes
 
 -- a reply is done exactly if no row holds
-done-is : (rows : List Row) → saysDone (replyTo (unless {A = Unit {0}} rows (done tt))) ≡ noCause rows
+done-is : (rows : List Row) → saysDone (rowsReply rows) ≡ noCause rows
 unfolding unless noCause
 done-is [] = refl
 done-is (row ∷ rows) = go (row .1) refl (done-is rows)
   where
-    go : (b : Bool) → row .1 ≡ b → saysDone (replyTo (unless {A = Unit {0}} rows (done tt))) ≡ noCause rows
-        → saysDone (replyTo (unless {A = Unit {0}} (row ∷ rows) (done tt))) ≡ noCause (row ∷ rows)
+    go : (b : Bool) → row .1 ≡ b → saysDone (rowsReply rows) ≡ noCause rows
+        → saysDone (rowsReply (row ∷ rows)) ≡ noCause (row ∷ rows)
     go true e rest = rw e refl
     go false e rest = rw e rest
 

@@ -5,3 +5,4 @@ pub mod Standing
 pub mod Waiting
 pub mod Instructions
 pub mod Whole
+pub mod Turns

@@ -5,11 +5,11 @@ use borrow.Author.Needs.{needs}
 use Rattle.rules.specs.EndStep.{meetHeads}
 use Rattle.rules.specs.Layout.{view}
 use Rattle.ends.specs.Items.{itemOf}
-use Rattle.stepping.proofs.Steps.{refused-step}
+use Rattle.stepping.proofs.Steps.{refused-step, promised-as}
 use Rattle.meetings.specs.declared.heads.Meeting.{Meeting}
 use Rattle.meetings.specs.Heads.{meetingIn, RightIn}
 use Rattle.meetings.specs.Stepped.{askMet}
-use Rattle.meetings.proofs.Answers.{met-mismatch, promised-as}
+use Rattle.meetings.proofs.Answers.{met-mismatch}
 use Rattle.meetings.proofs.meet.Statement.{statement}
 use Rattle.meetings.proofs.meet.Tie as tie
 

@@ -11,9 +11,8 @@ use Rattle.rules.specs.Layout.{view}
 use Rattle.keeping.proofs.Memories.{memory-length}
 use Rattle.ends.specs.Items.{headIn}
 use Rattle.ends.proofs.Fitting.{sound-fits}
-use Rattle.stepping.proofs.Steps.{refused-step}
-use Rattle.meetings.proofs.Answers.{promised-as, over-the-last, end-free, own-empty, partner-empty, both-head}
-use Rattle.meetings.proofs.Waiting.{sized}
+use Rattle.stepping.proofs.Steps.{refused-step, promised-as, memory-sized}
+use Rattle.meetings.proofs.Answers.{over-the-last, end-free, own-empty, partner-empty, both-head}
 use Rattle.meetings.proofs.Changes.{partner-shown}
 use Rattle.meetings.proofs.step_end.Statement.{statement}
 use Rattle.meetings.proofs.step_end.Tie as tie
@@ -43,7 +42,7 @@ returns-2 c =
     let a = at-start .args in
     let m = a .m .now in
     let s = at-start .pre .0 in
-    let free = sym (at-is-free .is-free .ensures (view m) (sized m s) (s .laid-out)) ∙ c .if2 .taken in
+    let free = sym (at-is-free .is-free .ensures (view m) (memory-sized m s) (s .laid-out)) ∙ c .if2 .taken in
     refused-step 16 (end-free (view m) (a .end) (lt-leb endCount (a .end) (at-if1 .if1 .left)) free)
 
 partner-requires : tie.Need-partner-requires
@@ -58,7 +57,7 @@ in-use c =
     let at-start = at-is-free .before .before .before .before in
     let m = at-start .args .m .now in
     let s = at-start .pre .0 in
-    sym (at-is-free .is-free .ensures (view m) (sized m s) (s .laid-out)) ∙ c .if2 .left
+    sym (at-is-free .is-free .ensures (view m) (memory-sized m s) (s .laid-out)) ∙ c .if2 .left
 
 -- f is its partner, and one of the ends
 partner-here : (c : tie.After-partner)
@@ -69,7 +68,7 @@ partner-here c =
     let at-start = at-if2 .before .before .before .before .before in
     let m = at-start .args .m .now in
     let s = at-start .pre .0 in
-    let shown = c .partner .ensures (view m) (sized m s) (s .laid-out) in
+    let shown = c .partner .ensures (view m) (memory-sized m s) (s .laid-out) in
     partner-shown (view m) (s .state-sound) (at-start .args .end) (in-use at-if2) shown
 
 -- the head of the end's queue, and that of its partner's
@@ -80,7 +79,7 @@ head-here c =
     let at-start = c .before .before .before .before .before .before .before .before .before in
     let m = at-start .args .m .now in
     let s = at-start .pre .0 in
-    sym (c .head .ensures (view m) (sized m s) (s .laid-out) (sound-fits (view m) (s .state-sound) _))
+    sym (c .head .ensures (view m) (memory-sized m s) (s .laid-out) (sound-fits (view m) (s .state-sound) _))
 
 head-there : (c : tie.After-head2)
     → let at-head = c .before .before .before .before .before in
@@ -91,7 +90,7 @@ head-there c =
     let at-start = at-head .before .before .before .before .before .before .before .before .before in
     let m = at-start .args .m .now in
     let s = at-start .pre .0 in
-    sym (c .head2 .ensures (view m) (sized m s) (s .laid-out) (sound-fits (view m) (s .state-sound) _))
+    sym (c .head2 .ensures (view m) (memory-sized m s) (s .laid-out) (sound-fits (view m) (s .state-sound) _))
 
 head-requires : tie.Need-head-requires
 head-requires c κs =

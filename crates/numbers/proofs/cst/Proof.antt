@@ -1,18 +1,14 @@
 -- cst: 6, or v pushed. Assumes nothing.
 use mathlib.Core.Path.{ap, _∙_}
-use Prim.Native.Nat.{_≤_}
-use native.Mathlib.Omega.{arith}
-use lib.ListN.{length}
 use lib.IntN.{ℤ}
 use borrow.Author.Needs.{needs}
-use borrow.Author.Tests.{le-leb, lt-leb}
 use mir.Facts.{toZ-ofZ}
-use Rattle.rules.specs.Limits.{stackDepth}
 use Rattle.rules.specs.Layout.{view}
 use Rattle.keeping.proofs.Memories.{memory-length}
 use Rattle.registers.specs.Registers.{registersOf, pushed}
-use Rattle.stepping.proofs.Steps.{refused-step, done-step, sized, held-is, stack-count}
+use Rattle.stepping.proofs.Steps.{refused-step, done-step, memory-sized, held-is}
 use Rattle.numbers.proofs.Cases.{cst-full, cst-done}
+use Rattle.numbers.proofs.Loaded.{stack-full, stack-room}
 use Rattle.numbers.proofs.cst.Statement.{statement}
 use Rattle.numbers.proofs.cst.Tie as tie
 
@@ -26,10 +22,9 @@ returns : tie.Need-returns
 returns c g is =
     let at-load = c .before .before in
     let at-start = at-load .before .before .before in
-    let a = at-start .args in
-    let x = held-is (a .m .now) (at-start .pre .0) _ g is (at-load .load .ensures) in
-    let full : stackDepth ≤ length (g .stack) = omega (arith, c .if1 .taken, stack-count g x) in
-    refused-step 6 (cst-full (view (a .m .now)) _ _ g _ (le-leb stackDepth (length (g .stack)) full))
+    let m = at-start .args .m .now in
+    let x = held-is m (at-start .pre .0) _ g is (at-load .load .ensures) in
+    refused-step 6 (cst-full (view m) _ _ g _ (stack-full g x (c .if1 .taken)))
 
 push-requires : tie.Need-push-requires
 push-requires c κs = search needs
@@ -54,12 +49,13 @@ returns-2 c g is =
     let at-load = at-if1 .before .before in
     let at-start = at-load .before .before .before in
     let a = at-start .args in
+    let m = a .m .now in
     let s = at-start .pre .0 in
-    let x = held-is (a .m .now) s _ g is (at-load .load .ensures) in
-    let room = lt-leb stackDepth (length (g .stack)) (omega (arith, at-if1 .if1 .left, stack-count g x)) in
+    let x = held-is m s _ g is (at-load .load .ensures) in
     let same = ap (λ (z : ℤ). registersOf (pushed g z)) (toZ-ofZ (at-start .fits .v)) in
     let moved = at-at .at .ensures (pushed g (a .v)) (at-push .push .ensures .1 g x ∙ same) in
-    done-step (a .m .now) _ (cst-done (view (a .m .now)) _ _ g _ room) (at-save .save-running .ensures (view (a .m .now)) _ (sized (a .m .now) s _ g is) (s .laid-out) moved)
+    done-step m _ (cst-done (view m) _ _ g _ (stack-room g x (at-if1 .if1 .left)))
+    (at-save .save-running .ensures (view m) _ (memory-sized m s) (s .laid-out) moved)
 
 pub cst-spec : {M : Type 1} → statement M
 cst-spec =

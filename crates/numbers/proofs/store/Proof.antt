@@ -1,17 +1,16 @@
 -- store: 5, 6, or the top in front of the environment. Assumes nothing.
-use mathlib.Core.Path.{_≡_}
-use Prim.Native.Nat.{_≤_, _<_}
 use native.Mathlib.Omega.{arith}
 use lib.ListN.{length}
 use borrow.Author.Needs.{needs}
-use borrow.Author.Tests.{le-leb, lt-leb, lt-ltb, le-ltb}
+use borrow.Author.Tests.{le-leb, lt-leb}
 use Rattle.rules.specs.Limits.{environmentDepth}
-use Rattle.rules.specs.State.{Registers as Process, running, recordAt}
 use Rattle.rules.specs.Layout.{view}
 use Rattle.keeping.proofs.Memories.{memory-length}
-use Rattle.registers.specs.Registers.{registersOf, stored}
-use Rattle.stepping.proofs.Steps.{refused-step, done-step, sized, registers-ok, held-is, stack-count, environment-count}
+use Rattle.registers.specs.Registers.{stored}
+use Rattle.registers.proofs.Fields.{by-fields}
+use Rattle.stepping.proofs.Steps.{refused-step, done-step, memory-sized, registers-ok, held-is}
 use Rattle.numbers.proofs.Cases.{store-few, store-full, store-done}
+use Rattle.numbers.proofs.Loaded.{few, enough}
 use Rattle.numbers.proofs.store.Statement.{statement}
 use Rattle.numbers.proofs.store.Tie as tie
 
@@ -21,19 +20,13 @@ load-requires c κs = let at-start = c .before .before in (memory-length _ (at-s
 same-length : tie.Need-same-length
 same-length c = search needs
 
--- the registers that are loaded
-held : (c : tie.After-load) (g : Process)
-    → recordAt (view (c .before .before .before .args .m .now)) (c .before .before .before .args .r .0) ≡ running g
-    → c .load .result ≡ registersOf g
-held c g is =
-    let at-start = c .before .before .before in held-is (at-start .args .m .now) (at-start .pre .0) _ g is (c .load .ensures)
-
 returns : tie.Need-returns
 returns c g is =
     let at-load = c .before .before in
-    let a = at-load .before .before .before .args in
-    let few : length (g .stack) < 1 = omega (arith, c .if1 .taken, stack-count g (held at-load g is)) in
-    refused-step 5 (store-few (view (a .m .now)) _ _ g (lt-ltb (length (g .stack)) 1 few))
+    let at-start = at-load .before .before .before in
+    let m = at-start .args .m .now in
+    let x = held-is m (at-start .pre .0) _ g is (at-load .load .ensures) in
+    refused-step 5 (store-few (view m) _ _ g (few g x 1 (c .if1 .taken)))
 
 same-length-2 : tie.Need-same-length-2
 same-length-2 c = search needs
@@ -42,11 +35,11 @@ returns-2 : tie.Need-returns-2
 returns-2 c g is =
     let at-if1 = c .before .before in
     let at-load = at-if1 .before .before in
-    let a = at-load .before .before .before .args in
-    let x = held at-load g is in
-    let enough = le-ltb (length (g .stack)) 1 (omega (arith, at-if1 .if1 .left, stack-count g x)) in
-    let full : environmentDepth ≤ length (g .environment) = omega (arith, c .if2 .taken, environment-count g x) in
-    refused-step 6 (store-full (view (a .m .now)) _ _ g enough (le-leb environmentDepth (length (g .environment)) full))
+    let at-start = at-load .before .before .before in
+    let m = at-start .args .m .now in
+    let x = held-is m (at-start .pre .0) _ g is (at-load .load .ensures) in
+    let full = le-leb environmentDepth (length (g .environment)) (omega (arith, c .if2 .taken, by-fields g x .environment-count-is)) in
+    refused-step 6 (store-full (view m) _ _ g (enough g x 1 (at-if1 .if1 .left)) full)
 
 store-requires : tie.Need-store-requires
 store-requires c κs = search needs
@@ -73,13 +66,12 @@ returns-3 c g is =
     let at-start = at-load .before .before .before in
     let m = at-start .args .m .now in
     let s = at-start .pre .0 in
-    let x = held at-load g is in
-    let enough = le-ltb (length (g .stack)) 1 (omega (arith, at-if1 .if1 .left, stack-count g x)) in
-    let room = lt-leb environmentDepth (length (g .environment)) (omega (arith, at-if2 .if2 .left, environment-count g x)) in
+    let x = held-is m s _ g is (at-load .load .ensures) in
+    let room = lt-leb environmentDepth (length (g .environment)) (omega (arith, at-if2 .if2 .left, by-fields g x .environment-count-is)) in
     let within = registers-ok m s _ g is .stack-within in
     let moved = at-at .at .ensures (stored g) (at-store .store .ensures .1 g within x) in
-    done-step m _ (store-done (view m) _ _ g enough room)
-    (at-save .save-running .ensures (view m) _ (sized m s _ g is) (s .laid-out) moved)
+    done-step m _ (store-done (view m) _ _ g (enough g x 1 (at-if1 .if1 .left)) room)
+    (at-save .save-running .ensures (view m) _ (memory-sized m s) (s .laid-out) moved)
 
 pub store-spec : {M : Type 1} → statement M
 store-spec =

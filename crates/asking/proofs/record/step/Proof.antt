@@ -1,12 +1,7 @@
 -- A position is a record or an end. Assumes nothing.
-use mathlib.Core.Path.{sym, subst}
 use borrow.Author.Needs.{needs}
-use Rattle.rules.specs.State.{State}
-use Rattle.rules.specs.Refusal.{Answer}
 use Rattle.rules.specs.Layout.{view}
-use Rattle.rules.specs.Calls.{layoutOr}
-use Rattle.rules.specs.Numbers.{replyTo}
-use Rattle.rules.specs.Promise.{Promise}
+use Rattle.stepping.proofs.Steps.{promised-as}
 use Rattle.asking.proofs.Answers.{of-a-record, of-an-end}
 use Rattle.asking.proofs.record.step.Statement.{statement}
 use Rattle.asking.proofs.record.step.Tie as tie
@@ -26,10 +21,7 @@ returns c =
     let at-if = at-step .before .before in
     let a = at-if .before .before .args in
     let m = a .m .now in
-    subst
-    (λ (y : Answer State). Promise (replyTo y) (layoutOr m y) (at-step .step-record .result) (at-step .step-record .last .0))
-    (sym (of-a-record (view m) (a .position) (at-if .if1 .taken)))
-    (at-step .step-record .ensures)
+    promised-as m (of-a-record (view m) (a .position) (at-if .if1 .taken)) (at-step .step-record .ensures)
 
 cast-step-end : tie.Need-cast-step-end
 cast-step-end c = search needs
@@ -49,10 +41,7 @@ returns-2 c =
     let at-if = at-step .before .before in
     let a = at-if .before .before .args in
     let m = a .m .now in
-    subst
-    (λ (y : Answer State). Promise (replyTo y) (layoutOr m y) (at-step .step-end .result) (at-step .step-end .last .0))
-    (sym (of-an-end (view m) (a .position) (at-if .if1 .left)))
-    (at-step .step-end .ensures)
+    promised-as m (of-an-end (view m) (a .position) (at-if .if1 .left)) (at-step .step-end .ensures)
 
 pub step-spec : {M : Type 1} → statement M
 step-spec =

@@ -1,22 +1,16 @@
 -- The place, the code, the decoder, and the instruction. Assumes nothing.
-use mathlib.Core.Path.{_≡_, sym, ap, _∙_, subst}
+use mathlib.Core.Path.{_≡_, sym, ap, _∙_}
 use mathlib.Core.Option.{some}
-use mathlib.Core.List.{List}
-use Prim.Native.Nat.{ℕ}
 use borrow.Author.Needs.{needs}
-use Rattle.rules.specs.State.{State, RecordState}
-use Rattle.rules.specs.Refusal.{Answer}
-use Rattle.rules.specs.Instruction as rules
+use Rattle.rules.specs.State.{RecordState}
 use Rattle.rules.specs.Instruction.{decode}
 use Rattle.rules.specs.Layout.{view}
-use Rattle.rules.specs.Calls.{layoutOr}
-use Rattle.rules.specs.Numbers.{replyTo}
-use Rattle.rules.specs.Promise.{Promise}
-use Rattle.code.specs.Meaning.{meaning, instructionOf}
+use Rattle.code.specs.Meaning.{instructionOf}
 use Rattle.registers.specs.Registers.{registersIn}
-use Rattle.stepping.proofs.Steps.{refused-step, in-range, sized}
+use Rattle.stepping.proofs.Steps.{refused-step, promised-as, memory-sized, in-range}
+use Rattle.stepping.proofs.Decoding.{decoded-good, decoded-bad, next-small}
 use Rattle.asking.proofs.Listing.{listed-in}
-use Rattle.asking.proofs.Answers.{no-instruction, an-instruction, next-fits}
+use Rattle.asking.proofs.Answers.{no-instruction, an-instruction}
 use Rattle.asking.proofs.record.step_running.Statement.{statement}
 use Rattle.asking.proofs.record.step_running.Tie as tie
 
@@ -46,42 +40,26 @@ placed c =
     let m = at-start .args .m .now in
     let s = at-start .pre .1 .0 in
     let a = at-start .pre .1 .2 in
-    c .place-of .ensures (view m) (sized m s _ (a .process) (a .runs)) (s .state-sound .S1 .records-within _) (s .laid-out)
+    c .place-of .ensures (view m) (memory-sized m s) (s .state-sound .S1 .records-within _) (s .laid-out)
     ∙ ap (λ (x : RecordState). registersIn x .place) (a .runs)
 
--- what the decoder answers, of the code in the memory
-decoded : (c : tie.After-decode)
-    → meaning (view (c .before .before .before .before .before .before .args .m .now) .code) (c .before .before .before .place-of .result) (c .decode .result)
-    ≡ decode (view (c .before .before .before .before .before .before .args .m .now) .code) (c .before .before .before .place-of .result)
-decoded c =
-    let at-code = c .before in
-    let at-place = at-code .before .before in
-    subst
-    (λ (code : List ℕ). meaning code (at-place .place-of .result) (c .decode .result) ≡ decode code (at-place .place-of .result))
-    (at-code .code .ensures)
-    (c .decode .ensures)
-
--- a decoding that is good, at the place of the process
-good : (c : tie.After-i)
-    → some (record {
-      instruction = instructionOf (view (c .before .before .before .before .before .before .before .before .args .m .now) .code)
-          (c .before .before .before .before .before .place-of .result) (c .i .given .0 .0);
-      next = c .i .given .0 .1 .0;
-    })
-    ≡ decode (view (c .before .before .before .before .before .before .before .before .args .m .now) .code)
-    (c .before .before .before .before .before .place-of .result)
+-- a decoding that is good
+good : (c : tie.After-i) → let at-place = c .before .before .before .before .before in
+    let code = view (at-place .before .before .before .args .m .now) .code in
+    let place = at-place .place-of .result in
+    let given = c .i .given .0 in
+    decode code place ≡ some (record { instruction = instructionOf code place (given .0); next = given .1 .0 })
 good c =
     let at-decode = c .before .before in
-    let at-place = at-decode .before .before .before in
-    let code = view (at-place .before .before .before .args .m .now) .code in
-    ap (meaning code (at-place .place-of .result)) (sym (c .i .given .1)) ∙ decoded at-decode
+    let at-code = at-decode .before in
+    decoded-good _ _ _ _ (at-code .code .ensures) (at-decode .decode .ensures) (c .i .given .1)
 
 cast-step-instruction : tie.Need-cast-step-instruction
 cast-step-instruction c =
     let at-i = c .before .before in
     let at-place = at-i .before .before .before .before .before in
     let at-start = at-place .before .before .before in
-    next-fits (view (at-start .args .m .now)) (at-start .pre .1 .0 .state-sound) _ _ _ (good at-i)
+    record { fits = next-small (at-start .args .m .now) (at-start .pre .1 .0) _ _ (good at-i) }
 
 step-instruction-requires : tie.Need-step-instruction-requires
 step-instruction-requires c κs =
@@ -98,13 +76,13 @@ same-length c = search needs
 returns : tie.Need-returns
 returns c =
     let at-decode = c .before .before in
-    let at-place = at-decode .before .before .before in
+    let at-code = at-decode .before in
+    let at-place = at-code .before .before in
     let at-start = at-place .before .before .before in
     let m = at-start .args .m .now in
     let a = at-start .pre .1 .2 in
-    let code = view m .code in
-    let bad = ap (meaning code (at-place .place-of .result)) (sym (c .enum-told .given .1)) ∙ decoded at-decode in
-    refused-step 4 (no-instruction (view m) _ (a .process) (a .runs) (bad ∙ ap (decode code) (placed at-place)))
+    let bad = decoded-bad (view m .code) _ _ _ (at-code .code .ensures) (at-decode .decode .ensures) (c .enum-told .given .1) in
+    refused-step 4 (no-instruction (view m) _ (a .process) (a .runs) (ap (decode (view m .code)) (sym (placed at-place)) ∙ bad))
 
 same-length-2 : tie.Need-same-length-2
 same-length-2 c = search needs
@@ -117,11 +95,8 @@ returns-2 c =
     let at-start = at-place .before .before .before in
     let m = at-start .args .m .now in
     let a = at-start .pre .1 .2 in
-    let is = an-instruction (view m) _ (a .process) (a .runs) _ _ (good at-i ∙ ap (decode (view m .code)) (placed at-place)) in
-    subst
-    (λ (y : Answer State). Promise (replyTo y) (layoutOr m y) (at-step .step-instruction .result) (at-step .step-instruction .last .0))
-    (sym is)
-    (at-step .step-instruction .ensures (a .process) (a .runs))
+    let here = ap (decode (view m .code)) (sym (placed at-place)) ∙ good at-i in
+    promised-as m (an-instruction (view m) _ (a .process) (a .runs) _ _ here) (at-step .step-instruction .ensures (a .process) (a .runs))
 
 pub step-running-spec : {M : Type 1} → statement M
 step-running-spec =

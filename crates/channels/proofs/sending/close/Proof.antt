@@ -7,7 +7,8 @@ use Rattle.rules.specs.RecordStep.{after}
 use Rattle.rules.specs.declared.Reply.the-variants.{Done}
 use Rattle.keeping.proofs.Memories.{memory-length}
 use Rattle.stepping.proofs.Steps.{registers-ok}
-use Rattle.channels.proofs.Answers.{Begun, told, own-step, holds-end, runs-here, shared-left, full-step, sent}
+use Rattle.stepping.proofs.Begun.{Begun, told, own-step, shared-left}
+use Rattle.channels.proofs.Answers.{holds-end, runs-here, full-step, sent}
 use Rattle.channels.proofs.Named.{close-named}
 use Rattle.channels.proofs.sending.close.Statement.{statement}
 use Rattle.channels.proofs.sending.close.Tie as tie
@@ -56,7 +57,7 @@ unfolding sharedCauses
 returns-2 c g is =
     let at-append = c .before .before .before .before .before in
     let b = passed (at-append .before .before) in
-    full-step (at-append .append .ensures _ g (runs-here b g is _ (close-named _))) (c .before .n2 .given .1) _ (shared-left b g is _)
+    full-step (at-append .append .ensures _ g (runs-here b _ (close-named _) g is)) (c .before .n2 .given .1) _ (shared-left b g is _)
 
 enum-told-2 : tie.Need-enum-told-2
 enum-told-2 c = search needs
@@ -85,7 +86,7 @@ returns-3 c g is =
     let at-enum-told2 = at-empty-slot .before in
     let at-append = at-enum-told2 .before .before .before .before in
     let b = passed (at-append .before .before) in
-    let runs = runs-here b g is _ (close-named _) in
+    let runs = runs-here b _ (close-named _) g is in
     let emptied = at-empty-slot .empty-slot .ensures g (registers-ok _ (b .sound) _ g is .slots-within) (runs .is-held) in
     let moved = at-at .at .ensures _ emptied in
     sent (at-append .append .ensures _ g runs) (at-enum-told2 .enum-told2 .given .1) (b .sound) refl _ _

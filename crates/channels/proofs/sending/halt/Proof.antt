@@ -6,7 +6,8 @@ use Rattle.rules.specs.Causes.{sharedCauses}
 use Rattle.rules.specs.RecordStep.{after}
 use Rattle.rules.specs.declared.Reply.the-variants.{Done}
 use Rattle.keeping.proofs.Memories.{memory-length}
-use Rattle.channels.proofs.Answers.{Begun, told, own-step, holds-end, runs-here, shared-left, full-step, sent}
+use Rattle.stepping.proofs.Begun.{Begun, told, own-step, shared-left}
+use Rattle.channels.proofs.Answers.{holds-end, runs-here, full-step, sent}
 use Rattle.channels.proofs.Named.{halt-named}
 use Rattle.channels.proofs.sending.halt.Statement.{statement}
 use Rattle.channels.proofs.sending.halt.Tie as tie
@@ -55,7 +56,7 @@ unfolding sharedCauses
 returns-2 c next g is =
     let at-append = c .before .before .before .before .before in
     let b = passed (at-append .before .before) in
-    full-step (at-append .append .ensures _ g (runs-here b g is _ (halt-named _))) (c .before .n2 .given .1) _ (shared-left b g is _)
+    full-step (at-append .append .ensures _ g (runs-here b _ (halt-named _) g is)) (c .before .n2 .given .1) _ (shared-left b g is _)
 
 enum-told-2 : tie.Need-enum-told-2
 enum-told-2 c = search needs
@@ -76,7 +77,7 @@ returns-3 c next g is =
     let at-enum-told2 = at-clear .before .before in
     let at-append = at-enum-told2 .before .before .before .before in
     let b = passed (at-append .before .before) in
-    let runs = runs-here b g is _ (halt-named _) in
+    let runs = runs-here b _ (halt-named _) g is in
     sent (at-append .append .ensures _ g runs) (at-enum-told2 .enum-told2 .given .1) (b .sound) refl _ _
     (at-clear .clear .ensures) (shared-left b g is _)
 

@@ -6,7 +6,8 @@ use Rattle.rules.specs.Causes.{sharedCauses}
 use Rattle.rules.specs.RecordStep.{after}
 use Rattle.rules.specs.declared.Reply.the-variants.{Done}
 use Rattle.keeping.proofs.Memories.{memory-length}
-use Rattle.channels.proofs.Answers.{Begun, told, own-step, holds-end, runs-here, shared-left, full-step, sent}
+use Rattle.stepping.proofs.Begun.{Begun, told, own-step, shared-left}
+use Rattle.channels.proofs.Answers.{holds-end, runs-here, full-step, sent}
 use Rattle.channels.proofs.Named.{hput-named}
 use Rattle.channels.proofs.sending.hput.Statement.{statement}
 use Rattle.channels.proofs.sending.hput.Tie as tie
@@ -59,7 +60,7 @@ unfolding sharedCauses
 returns-2 c g is =
     let at-append = c .before .before .before .before .before in
     let b = passed (at-append .before .before) in
-    let runs = runs-here b g is _ (λ g. hput-named _ g _) in
+    let runs = runs-here b _ (λ g. hput-named _ g _) g is in
     full-step (at-append .append .ensures _ g runs) (c .before .k2 .given .1) _ (shared-left b g is _)
 
 enum-told-2 : tie.Need-enum-told-2
@@ -85,7 +86,7 @@ returns-3 c g is =
     let at-enum-told2 = at-at .before .before in
     let at-append = at-enum-told2 .before .before .before .before in
     let b = passed (at-append .before .before) in
-    let runs = runs-here b g is _ (λ g. hput-named _ g _) in
+    let runs = runs-here b _ (λ g. hput-named _ g _) g is in
     let moved = at-at .at .ensures g (runs .is-held) in
     sent (at-append .append .ensures _ g runs) (at-enum-told2 .enum-told2 .given .1) (b .sound) refl _ _
     (λ st l q. at-save .save-running .ensures st _ l q moved) (shared-left b g is _)

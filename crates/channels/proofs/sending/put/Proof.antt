@@ -18,9 +18,11 @@ use Rattle.rules.specs.Sound.{ValueWithin}
 use Rattle.rules.specs.declared.Reply.the-variants.{Done}
 use Rattle.keeping.proofs.Memories.{memory-length}
 use Rattle.registers.specs.Registers.{popped}
-use Rattle.stepping.proofs.Steps.{registers-ok, stack-count}
-use Rattle.channels.specs.Appending.{shownBy}
-use Rattle.channels.proofs.Answers.{Begun, told, own-step, loaded, shown-passed, holds-end, runs-here, shared-left, full-step, sent}
+use Rattle.registers.proofs.Fields.{by-fields}
+use Rattle.stepping.specs.Stepped.{shownBy}
+use Rattle.stepping.proofs.Steps.{registers-ok}
+use Rattle.stepping.proofs.Begun.{Begun, told, own-step, shown, shown-passed, shared-left}
+use Rattle.channels.proofs.Answers.{holds-end, runs-here, full-step, sent}
 use Rattle.channels.proofs.Named.{put-named}
 use Rattle.channels.proofs.sending.put.Statement.{statement}
 use Rattle.channels.proofs.sending.put.Tie as tie
@@ -65,7 +67,7 @@ pop-requires c κs =
     let a = c .before .before .before .before .before .before .args in
     let b = passed c in
     let g = shownBy (a .m .now) (a .r .0) in
-    omega (arith, stack-count g (loaded b), ltb-false (length (g .stack)) 1 (one-value g _ (shown-passed b)))
+    omega (arith, by-fields g (shown b) .stack-count-is, ltb-false (length (g .stack)) 1 (one-value g _ (shown-passed b)))
 
 append-requires : tie.Need-append-requires
 append-requires c κs = holds-end (passed (c .before .before .before)) _ (put-named _)
@@ -81,7 +83,7 @@ unfolding sharedCauses
 returns-2 c g is =
     let at-append = c .before .before .before .before .before in
     let b = passed (at-append .before .before .before .before) in
-    full-step (at-append .append .ensures _ g (runs-here b g is _ (put-named _))) (c .before .n2 .given .1) _ (shared-left b g is _)
+    full-step (at-append .append .ensures _ g (runs-here b _ (put-named _) g is)) (c .before .n2 .given .1) _ (shared-left b g is _)
 
 enum-told-2 : tie.Need-enum-told-2
 enum-told-2 c = search needs
@@ -107,7 +109,7 @@ returns-3 c g is =
     let at-append = at-enum-told2 .before .before .before .before in
     let at-pop = at-append .before .before .before in
     let b = passed (at-pop .before) in
-    let runs = runs-here b g is _ (put-named _) in
+    let runs = runs-here b _ (put-named _) g is in
     let ok = registers-ok _ (b .sound) _ g is in
     let pop = at-pop .pop .ensures g (ok .stack-within) (runs .is-held) in
     let fits : SFits w32 (at-pop .pop .result .value) = record { sfits = subst ValueWithin (sym (pop .0)) (ok .stack-values 0) } in

@@ -3,7 +3,8 @@ use borrow.Author.Needs.{needs}
 use Rattle.rules.specs.Instruction.{split}
 use Rattle.rules.specs.declared.Reply.the-variants.{Done}
 use Rattle.keeping.proofs.Memories.{memory-length}
-use Rattle.channels.proofs.Answers.{Begun, told, own-step, holds-end, runs-here, shared-left, shared-step}
+use Rattle.stepping.proofs.Begun.{Begun, told, own-step, shared-left}
+use Rattle.channels.proofs.Answers.{holds-end, runs-here, shared-step}
 use Rattle.channels.proofs.Named.{split-named}
 use Rattle.channels.proofs.splitting.split.Statement.{statement}
 use Rattle.channels.proofs.splitting.split.Tie as tie
@@ -51,7 +52,7 @@ returns-2 : tie.Need-returns-2
 returns-2 c g is =
     let at-split = c .before .before in
     let b = passed (at-split .before .before) in
-    shared-step (at-split .split-at .ensures g (runs-here b g is _ (λ g. split-named _ g _ _))) (shared-left b g is _)
+    shared-step (at-split .split-at .ensures g (runs-here b _ (λ g. split-named _ g _ _) g is)) (shared-left b g is _)
 
 pub split-spec : {M : Type 1} → statement M
 split-spec =

@@ -7,13 +7,13 @@ use Rattle.rules.specs.Limits.{endCount}
 use Rattle.rules.specs.State.{Registers as Process, endIn}
 use Rattle.rules.specs.Layout.{view, freeWord}
 use Rattle.keeping.proofs.Memories.{memory-length}
-use Rattle.stepping.proofs.Steps.{refused-step, done-step, registers-ok}
+use Rattle.stepping.proofs.Steps.{refused-step, done-step, memory-sized, registers-ok}
+use Rattle.stepping.proofs.FreeEnds.{few-ends}
 use Rattle.channels.specs.Appending.{Runs}
 use Rattle.channels.proofs.Holding.{end-within, own}
-use Rattle.channels.proofs.Answers.{sized-view}
 use Rattle.channels.proofs.Appends.{full, not-full}
 use Rattle.channels.proofs.Splits.{splitEnds, splitRegisters, sized-split, split-full, split-few, split-done}
-use Rattle.channels.proofs.Splits.{NewEnds, few, new-ends, new-within}
+use Rattle.channels.proofs.Splits.{NewEnds, new-ends, new-within}
 use Rattle.channels.proofs.splitting.split_at.Statement.{statement}
 use Rattle.channels.proofs.splitting.split_at.Tie as tie
 
@@ -61,7 +61,7 @@ word-is : (c : tie.After-free-word) → let at-own-end = c .before .before .befo
 word-is c =
     let at-own-end = c .before .before .before .before .before in
     let s = at-own-end .before .before .pre .0 .sound in
-    c .free-word .ensures _ (sized-view s) (s .laid-out)
+    c .free-word .ensures _ (memory-sized _ s) (s .laid-out)
 
 same-length-2 : tie.Need-same-length-2
 same-length-2 c = search needs
@@ -76,7 +76,7 @@ returns-2 c g h =
     let a = at-own-end .before .before .args in
     let s = at-own-end .before .before .pre .0 .sound in
     let room = not-full s h _ (here at-own-end g h) (at-queued .queued .ensures .1) (at-if1 .if1 .left) in
-    let too-few = few _ (sized-view s) _ (word-is at-free-word) (at-count .count .ensures) (c .if2 .taken) in
+    let too-few = few-ends _ (memory-sized _ s) _ (word-is at-free-word) (at-count .count .ensures) 4 (c .if2 .taken) in
     record { shared = refused-step 15 (split-few (view (a .m .now)) _ _ g _ _ _ room too-few) }
 
 four-lowest-requires : tie.Need-four-lowest-requires
@@ -90,7 +90,7 @@ new c =
     let at-count = at-if2 .before in
     let at-free-word = at-count .before in
     let s = at-free-word .before .before .before .before .before .before .before .pre .0 .sound in
-    new-ends _ (sized-view s) _ (word-is at-free-word) (at-count .count .ensures) (at-if2 .if2 .left) _ (c .four-lowest .ensures)
+    new-ends _ (memory-sized _ s) _ (word-is at-free-word) (at-count .count .ensures) (at-if2 .if2 .left) _ (c .four-lowest .ensures)
 
 split-ends-requires : tie.Need-split-ends-requires
 split-ends-requires c κs =
@@ -99,14 +99,14 @@ split-ends-requires c κs =
     let at-own-end = at-queued .before .before in
     let s = at-own-end .before .before .pre .0 .sound in
     let left = at-four .before .before .before .before .before .if1 .left in
-    let four = new-within _ (sized-view s) _ (new at-four) in
+    let four = new-within _ (memory-sized _ s) _ (new at-four) in
     ((memory-length _ s, within at-own-end, omega (arith, left, at-queued .queued .ensures .0)), four)
 
 split-registers-requires : tie.Need-split-registers-requires
 split-registers-requires c κs =
     let at-four = c .before .before .before .before .before in
     let at-own-end = at-four .before .before .before .before .before .before .before .before in
-    let w = new-within _ (sized-view (at-own-end .before .before .pre .0 .sound)) _ (new at-four) in
+    let w = new-within _ (memory-sized _ (at-own-end .before .before .pre .0 .sound)) _ (new at-four) in
     (w .p-within, w .s-within)
 
 save-running-requires : tie.Need-save-running-requires
@@ -132,7 +132,7 @@ returns-3 c g h =
     let a = at-own-end .before .before .args in
     let s = at-own-end .before .before .pre .0 .sound in
     let st = view (a .m .now) in
-    let z = sized-view s in
+    let z = memory-sized _ s in
     let is = here at-own-end g h in
     let room = not-full s h _ is (at-queued .queued .ensures .1) (at-if1 .if1 .left) in
     let n = new at-four in

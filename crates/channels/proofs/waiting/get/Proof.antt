@@ -5,7 +5,8 @@ use Rattle.rules.specs.Causes.{sharedCauses}
 use Rattle.rules.specs.RecordStep.{after}
 use Rattle.rules.specs.declared.Reply.the-variants.{Done}
 use Rattle.keeping.proofs.Memories.{memory-length}
-use Rattle.channels.proofs.Answers.{Begun, told, own-step, holds-end, runs-here, shared-left, waited-step}
+use Rattle.stepping.proofs.Begun.{Begun, told, own-step, shared-left}
+use Rattle.channels.proofs.Answers.{holds-end, runs-here, waited-step}
 use Rattle.channels.proofs.Named.{get-named}
 use Rattle.channels.proofs.waiting.get.Statement.{statement}
 use Rattle.channels.proofs.waiting.get.Tie as tie
@@ -54,7 +55,7 @@ unfolding sharedCauses after
 returns-2 c next g is =
     let at-wait = c .before .before in
     let b = passed (at-wait .before .before) in
-    waited-step (at-wait .wait-at .ensures g (runs-here b g is _ (get-named _))) (shared-left b g is next)
+    waited-step (at-wait .wait-at .ensures g (runs-here b _ (get-named _) g is)) (shared-left b g is next)
 
 pub get-spec : {M : Type 1} → statement M
 get-spec =

@@ -3,8 +3,7 @@ use mathlib.Core.Path.{refl}
 use borrow.Author.Needs.{needs}
 use Rattle.rules.specs.Layout.{view}
 use Rattle.keeping.proofs.Memories.{memory-length}
-use Rattle.stepping.proofs.Steps.{done-step}
-use Rattle.meetings.proofs.Waiting.{sized}
+use Rattle.stepping.proofs.Steps.{done-step, memory-sized}
 use Rattle.meetings.proofs.Answers.{met-closes}
 use Rattle.meetings.proofs.steps.close.Statement.{statement}
 use Rattle.meetings.proofs.steps.close.Tie as tie
@@ -23,7 +22,8 @@ returns c =
     let at-start = at-free-both .before .before .before in
     let m = at-start .args .m .now in
     let s = at-start .pre .0 .0 in
-    done-step m _ (met-closes (view m) _ _ refl) (at-free-both .free-both .ensures (view m) (sized m s) (s .laid-out) (at-start .pre .1))
+    let left = at-free-both .free-both .ensures (view m) (memory-sized m s) (s .laid-out) (at-start .pre .1) in
+    done-step m _ (met-closes (view m) _ _ refl) left
 
 pub close-spec : {M : Type 1} → statement M
 close-spec = tie.close (tie.spec free-both-requires same-length returns)

@@ -8,11 +8,11 @@ use Rattle.rules.specs.Layout.{view}
 use Rattle.keeping.proofs.Memories.{memory-length}
 use Rattle.ends.proofs.Fitting.{sound-fits}
 use Rattle.rules.specs.Instruction.{placeAt}
-use Rattle.stepping.proofs.Steps.{refused-step, done-step}
+use Rattle.registers.proofs.Fields.{by-fields}
+use Rattle.stepping.proofs.Steps.{refused-step, done-step, memory-sized}
 use Rattle.meetings.specs.Wanted.{wantedOf}
-use Rattle.meetings.proofs.Decoding.{code-length}
 use Rattle.meetings.proofs.Answers.{met-mismatch, met-delivers}
-use Rattle.meetings.proofs.Waiting.{sized, waits-there, datum-within, Found, found, datumFor, datum-found, place-is}
+use Rattle.meetings.proofs.Waiting.{waits-there, datum-within, Found, found, datumFor, datum-found}
 use Rattle.meetings.proofs.Waiting.{no-handle-wanted, handle-below, handle-past}
 use Rattle.meetings.proofs.Changes.{heads-differ}
 use Rattle.meetings.proofs.steps.deliver_handle.Statement.{statement}
@@ -34,9 +34,8 @@ same-length : tie.Need-same-length
 same-length c = search needs
 
 -- what is known once the record is looked at
-found-here : (c : tie.After-wanted-at)
-    → Found (view (c .before .before .before .before .before .args .m .now)) (c .before .before .before .before .before .args .r .0)
-    (c .before .before .load .result) (c .wanted-at .result)
+found-here : (c : tie.After-wanted-at) → let a = c .before .before .before .before .before .args in
+    Found (view (a .m .now)) (a .r .0) (c .before .before .load .result) (c .wanted-at .result)
 found-here c =
     let at-load = c .before .before in
     let at-start = at-load .before .before .before in
@@ -71,10 +70,7 @@ returns-2 c e f =
     refused-step 18 (met-mismatch (view m) e f met)
 
 code-requires : tie.Need-code-requires
-code-requires c κs =
-    let at-start = c .before .before .before .before .before .before .before .before .before .before in
-    let s = at-start .pre .0 .0 in
-    (memory-length _ s, code-length _ s)
+code-requires c κs = search needs
 
 cast-case-place : tie.Need-cast-case-place
 cast-case-place c = search needs
@@ -116,13 +112,13 @@ returns-3 c e f =
     let wanted = ap (wantedOf (view m .code) (g .place)) (at-k .k .given .1) in
     let place = at-place .case-place .ensures
     ∙ ap (λ (code : List ℕ). placeAt code (x .place) (3 + 2 * a .n)) (at-code .code .ensures)
-    ∙ ap (λ (p : ℕ). placeAt (view m .code) p (3 + 2 * a .n)) (place-is g (there .loaded)) in
+    ∙ ap (λ (p : ℕ). placeAt (view m .code) p (3 + 2 * a .n)) (by-fields g (there .loaded) .place-is) in
     let met = datum-found (view m) _ there (a .from .0) (a .to .0) (handle (a .n))
     ∙ ap (datumFor (a .from .0) (a .to .0) (a .r .0) (handle (a .n)) g) wanted
     ∙ handle-below (view m .code) (g .place) g _ _ _ (a .n) _ (at-if1 .if1 .left) place in
     let fits = sound-fits (view m) (s .state-sound) in
     done-step m _ (met-delivers (view m) e f met)
-    (at-take-both .take-both .ensures (view m) _ (sized m s) (s .laid-out) (fits _) (fits _)
+    (at-take-both .take-both .ensures (view m) _ (memory-sized m s) (s .laid-out) (fits _) (fits _)
     (heads-differ (view m) _ _ (h .datum-heads) (h .wait-heads)) (at-at .at .ensures g (there .loaded)))
 
 pub deliver-handle-spec : {M : Type 1} → statement M

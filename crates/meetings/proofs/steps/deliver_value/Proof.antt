@@ -9,10 +9,11 @@ use Rattle.rules.specs.Layout.{view}
 use Rattle.keeping.proofs.Memories.{memory-length}
 use Rattle.ends.proofs.Fitting.{sound-fits}
 use Rattle.registers.specs.Registers.{registersOf, pushed}
-use Rattle.stepping.proofs.Steps.{refused-step, done-step, stack-count}
+use Rattle.registers.proofs.Fields.{by-fields}
+use Rattle.stepping.proofs.Steps.{refused-step, done-step, memory-sized}
 use Rattle.meetings.specs.Wanted.{wantedOf}
 use Rattle.meetings.proofs.Answers.{met-mismatch, met-delivers}
-use Rattle.meetings.proofs.Waiting.{sized, waits-there, datum-within, Found, found, datumFor, datum-found, no-value-wanted}
+use Rattle.meetings.proofs.Waiting.{waits-there, datum-within, Found, found, datumFor, datum-found, no-value-wanted}
 use Rattle.meetings.proofs.Changes.{heads-differ}
 use Rattle.meetings.proofs.steps.deliver_value.Statement.{statement}
 use Rattle.meetings.proofs.steps.deliver_value.Tie as tie
@@ -33,9 +34,8 @@ same-length : tie.Need-same-length
 same-length c = search needs
 
 -- what is known once the record is looked at
-found-here : (c : tie.After-wanted-at)
-    → Found (view (c .before .before .before .before .before .args .m .now)) (c .before .before .before .before .before .args .r .0)
-    (c .before .before .load .result) (c .wanted-at .result)
+found-here : (c : tie.After-wanted-at) → let a = c .before .before .before .before .before .args in
+    Found (view (a .m .now)) (a .r .0) (c .before .before .load .result) (c .wanted-at .result)
 found-here c =
     let at-load = c .before .before in
     let at-start = at-load .before .before .before in
@@ -60,7 +60,7 @@ push-requires c κs =
     let f = found-here at-wanted-at in
     let w = f .waits in
     let room = w .room _ (f .wanted-is ∙ ap (wantedOf code (w .held .place)) (c .before .next .given .1)) in
-    omega (arith, room, stack-count (w .held) (f .loaded))
+    omega (arith, room, by-fields (w .held) (f .loaded) .stack-count-is)
 
 at-requires : tie.Need-at-requires
 at-requires c κs = search needs
@@ -96,7 +96,7 @@ returns-2 c e f =
     let moved = at-at .at .ensures (pushed g (a .v)) (at-push .push .ensures .1 g (there .loaded) ∙ same) in
     let fits = sound-fits (view m) (s .state-sound) in
     done-step m _ (met-delivers (view m) e f met)
-    (at-take-both .take-both .ensures (view m) _ (sized m s) (s .laid-out) (fits _) (fits _)
+    (at-take-both .take-both .ensures (view m) _ (memory-sized m s) (s .laid-out) (fits _) (fits _)
     (heads-differ (view m) _ _ (h .datum-heads) (h .wait-heads)) moved)
 
 pub deliver-value-spec : {M : Type 1} → statement M

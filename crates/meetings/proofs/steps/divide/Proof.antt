@@ -7,12 +7,13 @@ use Rattle.rules.specs.Layout.{view}
 use Rattle.keeping.proofs.Memories.{memory-length}
 use Rattle.rules.specs.Limits.{recordCount, endCount}
 use Rattle.rules.specs.State.{lowestFreeRecord}
-use Rattle.stepping.proofs.Steps.{refused-step, done-step}
+use Rattle.stepping.proofs.Steps.{refused-step, done-step, memory-sized}
 use Rattle.meetings.specs.declared.wanted.Wanted.{Wanted}
 use Rattle.meetings.specs.Wanted.{wantedOf}
+use Rattle.stepping.proofs.FreeRecords.{no-record, some-record}
 use Rattle.meetings.proofs.Answers.{met-mismatch, met-divides, met-no-record}
-use Rattle.meetings.proofs.Waiting.{sized, waits-there, Found, found, splitFor, split-found, no-split-wanted}
-use Rattle.meetings.proofs.Changes.{split-within, no-record, some-record}
+use Rattle.meetings.proofs.Waiting.{waits-there, Found, found, splitFor, split-found, no-split-wanted}
+use Rattle.meetings.proofs.Changes.{split-within}
 use Rattle.meetings.proofs.steps.divide.Statement.{statement}
 use Rattle.meetings.proofs.steps.divide.Tie as tie
 
@@ -32,9 +33,8 @@ same-length : tie.Need-same-length
 same-length c = search needs
 
 -- what is known once the record is looked at
-found-here : (c : tie.After-wanted-at)
-    → Found (view (c .before .before .before .before .before .args .m .now)) (c .before .before .before .before .before .args .r .0)
-    (c .before .before .load .result) (c .wanted-at .result)
+found-here : (c : tie.After-wanted-at) → let a = c .before .before .before .before .before .args in
+    Found (view (a .m .now)) (a .r .0) (c .before .before .load .result) (c .wanted-at .result)
 found-here c =
     let at-load = c .before .before in
     let at-start = at-load .before .before .before in
@@ -79,7 +79,7 @@ returns-2 c =
     let g = there .waits .held in
     let met = split-found (view m) _ there (a .first .0) (a .second .0)
     ∙ ap (λ (w : Wanted). splitFor (a .first .0) (a .second .0) (a .r .0) g (wantedOf (view m .code) (g .place) w)) (at-a .a .given .1) in
-    let lowest = at-lowest .lowest-free-record .ensures (view m) (sized m s) (s .laid-out) in
+    let lowest = at-lowest .lowest-free-record .ensures (view m) (memory-sized m s) (s .laid-out) in
     let none-left : recordCount ≤ lowestFreeRecord (view m) = omega (arith, c .if1 .taken, lowest) in
     refused-step 19 (met-no-record (view m) _ _ met (no-record (view m) (s .state-sound) none-left))
 
@@ -123,9 +123,9 @@ returns-3 c =
     let slots = there .waits .within .slots-within in
     let met = split-found (view m) _ there (a .first .0) (a .second .0)
     ∙ ap (λ (w : Wanted). splitFor (a .first .0) (a .second .0) (a .r .0) g (wantedOf (view m .code) (g .place) w)) (at-a .a .given .1) in
-    let lowest = at-lowest .lowest-free-record .ensures (view m) (sized m s) (s .laid-out) in
+    let lowest = at-lowest .lowest-free-record .ensures (view m) (memory-sized m s) (s .laid-out) in
     let free = some-record (view m) (omega (arith, at-if1 .if1 .left, lowest)) in
-    let left = at-run .free-and-run .ensures (view m) _ _ (sized m s) (s .laid-out) (at-start .pre .1 .0)
+    let left = at-run .free-and-run .ensures (view m) _ _ (memory-sized m s) (s .laid-out) (at-start .pre .1 .0)
     (at-branch .branch .ensures g slots (there .loaded)) (at-branch2 .branch2 .ensures g slots (there .loaded)) in
     done-step m _ (met-divides (view m) _ _ met free lowest) left
 

@@ -1,6 +1,7 @@
 -- Both ends freed, then two records saved. Assumes nothing.
 use borrow.Author.Needs.{needs}
-use Rattle.meetings.proofs.Changes.{sized-end, sized-record}
+use Rattle.ends.proofs.Changes.{sized-anew}
+use Rattle.stepping.proofs.Steps.{sized-record}
 use Rattle.meetings.proofs.steps.free_and_run.Statement.{statement}
 use Rattle.meetings.proofs.steps.free_and_run.Tie as tie
 
@@ -21,9 +22,9 @@ returns c st g g′ k e h p q =
     let at-save2 = c .before .before in
     let at-save = at-save2 .before .before .before .before in
     let at-free = at-save .before .before .before .before in
-    let freed-sized = sized-end (sized-end k _ _) _ _ in
+    let freed-sized = sized-anew _ _ _ (sized-anew st _ _ k) in
     let one = at-save .save-running .ensures _ g freed-sized (at-free .free-both .ensures st k e h) p in
-    at-save2 .save-running2 .ensures _ g′ (sized-record freed-sized _ _) one q
+    at-save2 .save-running2 .ensures _ g′ (sized-record _ _ _ freed-sized) one q
 
 pub free-and-run-spec : {M : Type 1} → statement M
 free-and-run-spec =

@@ -3,7 +3,8 @@ use Prim.Native.Nat.{_<_}
 use lib.ListN.{length}
 use native.Mathlib.Omega.{arith}
 use borrow.Author.Needs.{needs}
-use Rattle.meetings.proofs.Changes.{sized-end, no-data-still}
+use Rattle.ends.proofs.Changes.{sized-anew}
+use Rattle.meetings.proofs.Changes.{no-data-still}
 use Rattle.meetings.proofs.steps.free_both.Statement.{statement}
 use Rattle.meetings.proofs.steps.free_both.Tie as tie
 
@@ -23,7 +24,7 @@ returns c st k e h =
     let at-start = at-free .before .before .before in
     let one = at-free .free .ensures st k e (h .none-here) in
     let within : at-start .args .e .0 < length (st .ends) = omega (arith, at-start .pre .1, k .ends-sized) in
-    at-free2 .free2 .ensures _ (sized-end k _ _) one (no-data-still st _ _ within (h .none-there))
+    at-free2 .free2 .ensures _ (sized-anew st _ _ k) one (no-data-still st _ _ within (h .none-there))
 
 pub free-both-spec : {M : Type 1} → statement M
 free-both-spec = tie.close (tie.spec free-requires free-requires-2 same-length returns)

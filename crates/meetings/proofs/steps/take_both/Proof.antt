@@ -4,7 +4,8 @@ use borrow.Author.Needs.{needs}
 use Rattle.rules.specs.State.{EndState, endAt, setEnd, behindHead}
 use Rattle.rules.specs.Layout.{layout}
 use Rattle.ends.specs.Ends.{EndFits}
-use Rattle.meetings.proofs.Changes.{sized-end, other-end}
+use Rattle.ends.proofs.Changes.{sized-anew}
+use Rattle.stepping.proofs.Steps.{other-end}
 use Rattle.meetings.proofs.steps.take_both.Statement.{statement}
 use Rattle.meetings.proofs.steps.take_both.Tie as tie
 
@@ -29,11 +30,11 @@ returns c st g k e fits fits′ differ q =
     let from = a .from .0 in
     let to = a .to .0 in
     let one = setEnd st from (behindHead (endAt st from)) in
-    let stays = other-end st from to (behindHead (endAt st from)) differ in
+    let stays = other-end st from to (behindHead (endAt st from)) (λ z. differ (sym z)) in
     let first = at-take .take-head .ensures st k e fits in
-    let second = at-take2 .take-head2 .ensures one (sized-end k _ _) first (subst EndFits (sym stays) fits′) in
+    let second = at-take2 .take-head2 .ensures one (sized-anew st _ _ k) first (subst EndFits (sym stays) fits′) in
     let both = second ∙ ap (λ (x : EndState). layout (setEnd one to (behindHead x))) stays in
-    at-save .save-running .ensures _ g (sized-end (sized-end k _ _) _ _) both q
+    at-save .save-running .ensures _ g (sized-anew one _ _ (sized-anew st _ _ k)) both q
 
 pub take-both-spec : {M : Type 1} → statement M
 take-both-spec =

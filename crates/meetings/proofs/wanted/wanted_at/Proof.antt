@@ -6,14 +6,13 @@ use borrow.Author.Needs.{needs}
 use Rattle.rules.specs.Instruction.{Decoded}
 use Rattle.rules.specs.EndStep.{decodedWait}
 use Rattle.rules.specs.Layout.{view}
-use Rattle.keeping.proofs.Memories.{memory-length}
+use Rattle.stepping.proofs.Decoding.{decoded-good, decoded-bad, next-small}
 use Rattle.meetings.specs.Wanted.{wantedBy}
-use Rattle.meetings.proofs.Decoding.{code-length, decoded-good, decoded-bad, next-small}
 use Rattle.meetings.proofs.wanted.wanted_at.Statement.{statement}
 use Rattle.meetings.proofs.wanted.wanted_at.Tie as tie
 
 code-requires : tie.Need-code-requires
-code-requires c κs = let s = c .before .pre .0 in (memory-length _ s, code-length _ s)
+code-requires c κs = search needs
 
 decode-requires : tie.Need-decode-requires
 decode-requires c κs = search needs

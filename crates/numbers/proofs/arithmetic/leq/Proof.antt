@@ -1,20 +1,18 @@
 -- leq: 5, or the answer of the order in the place of the two values. Assumes nothing.
-use mathlib.Core.Path.{_≡_, ap, _∙_}
-use Prim.Native.Nat.{_<_}
+use mathlib.Core.Path.{ap, _∙_}
 use native.Mathlib.Omega.{arith}
-use lib.ListN.{length}
 use lib.IntN.{ℤ}
 use borrow.Author.Needs.{needs}
-use borrow.Author.Tests.{lt-ltb, le-ltb}
 use mir.Syntax.{w32}
 use mir.Val.{SFits}
 use mir.Facts.{toZ-ofZ}
-use Rattle.rules.specs.State.{Registers as Process, running, recordAt, setRecord}
+use Rattle.rules.specs.State.{running, setRecord}
 use Rattle.rules.specs.Layout.{view, layout}
 use Rattle.keeping.proofs.Memories.{memory-length}
-use Rattle.registers.specs.Registers.{registersOf, combined, movedTo}
-use Rattle.stepping.proofs.Steps.{refused-step, done-step, sized, registers-ok, held-is, stack-count}
+use Rattle.registers.specs.Registers.{combined, movedTo}
+use Rattle.stepping.proofs.Steps.{refused-step, done-step, memory-sized, registers-ok, held-is}
 use Rattle.numbers.proofs.Cases.{leq-few, leq-done}
+use Rattle.numbers.proofs.Loaded.{few, enough}
 use Rattle.numbers.proofs.arithmetic.leq.Statement.{statement}
 use Rattle.numbers.proofs.arithmetic.leq.Tie as tie
 
@@ -24,19 +22,13 @@ load-requires c κs = let at-start = c .before .before in (memory-length _ (at-s
 same-length : tie.Need-same-length
 same-length c = search needs
 
--- the registers that are loaded
-held : (c : tie.After-load) (g : Process)
-    → recordAt (view (c .before .before .before .args .m .now)) (c .before .before .before .args .r .0) ≡ running g
-    → c .load .result ≡ registersOf g
-held c g is =
-    let at-start = c .before .before .before in held-is (at-start .args .m .now) (at-start .pre .0) _ g is (c .load .ensures)
-
 returns : tie.Need-returns
 returns c g is =
     let at-load = c .before .before in
-    let a = at-load .before .before .before .args in
-    let few : length (g .stack) < 2 = omega (arith, c .if1 .taken, stack-count g (held at-load g is)) in
-    refused-step 5 (leq-few (view (a .m .now)) _ _ g (lt-ltb (length (g .stack)) 2 few))
+    let at-start = at-load .before .before .before in
+    let m = at-start .args .m .now in
+    let x = held-is m (at-start .pre .0) _ g is (at-load .load .ensures) in
+    refused-step 5 (leq-few (view m) _ _ g (few g x 2 (c .if1 .taken)))
 
 order-of-requires : tie.Need-order-of-requires
 order-of-requires c κs = search needs
@@ -60,14 +52,13 @@ returns-2 c g is =
     let a = at-start .args in
     let m = a .m .now in
     let s = at-start .pre .0 in
-    let x = held at-load g is in
-    let enough = le-ltb (length (g .stack)) 2 (omega (arith, at-if .if1 .left, stack-count g x)) in
+    let x = held-is m s _ g is (at-load .load .ensures) in
     let of-value : SFits w32 (at-value .order-of .result) = search needs in
     let value = toZ-ofZ {w = w32} of-value ∙ at-value .order-of .ensures g x in
     let anew = ap (λ (z : ℤ). layout (setRecord (view m) (a .r .0) (running (movedTo (combined g z) (a .next))))) value in
     let within = registers-ok m s _ g is .stack-within in
-    let saved = at-combine .combine .ensures (view m) g (sized m s _ g is) (s .laid-out) within x in
-    done-step m _ (leq-done (view m) (a .r .0) (a .next) g enough) (saved ∙ anew)
+    let saved = at-combine .combine .ensures (view m) g (memory-sized m s) (s .laid-out) within x in
+    done-step m _ (leq-done (view m) (a .r .0) (a .next) g (enough g x 2 (at-if .if1 .left))) (saved ∙ anew)
 
 pub leq-spec : {M : Type 1} → statement M
 leq-spec =

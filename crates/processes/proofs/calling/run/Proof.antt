@@ -1,15 +1,13 @@
 -- run: what its rows say, or the callee. Assumes nothing.
-use mathlib.Core.Path.{_≡_, sym, _∙_}
 use native.Mathlib.Omega.{arith}
 use borrow.Author.Needs.{needs}
-use Rattle.rules.specs.State.{Registers as Process, running, recordAt}
-use Rattle.rules.specs.Instruction.{slotsAt, run}
+use Rattle.rules.specs.Instruction.{Instruction, slotsAt, run}
 use Rattle.rules.specs.Layout.{view}
+use Rattle.rules.specs.declared.Reply.the-variants.{Done}
 use Rattle.keeping.proofs.Memories.{memory-length}
-use Rattle.registers.specs.Registers.{registersOf}
-use Rattle.causes.specs.Own.{ownReply}
-use Rattle.causes.proofs.Shared.{own-refused}
-use Rattle.stepping.proofs.Steps.{refused-step, done-step, in-range, sized, registers-ok, held-is, stack-count}
+use Rattle.registers.proofs.Fields.{by-fields}
+use Rattle.stepping.proofs.Steps.{done-step, memory-sized, in-range}
+use Rattle.stepping.proofs.Begun.{Begun, told, within, held, own-step, passes}
 use Rattle.processes.proofs.CallCases.{enough, run-done}
 use Rattle.processes.proofs.calling.run.Statement.{statement}
 use Rattle.processes.proofs.calling.run.Tie as tie
@@ -27,51 +25,46 @@ enum-known-number c = search needs
 same-length : tie.Need-same-length
 same-length c = search needs
 
--- the registers that are loaded
-held : (c : tie.After-load) (g : Process)
-    → recordAt (view (c .before .before .before .args .m .now)) (c .before .before .before .args .r .0) ≡ running g
-    → c .load .result ≡ registersOf g
-held c g is =
-    let at-start = c .before .before .before in held-is (at-start .args .m .now) (at-start .pre .0) _ g is (c .load .ensures)
+-- the instruction
+abbrev this : tie.Start → Instruction
+this s =
+    let a = s .args in run (a .place) (a .n) (slotsAt (view (a .m .now) .code) (a .at) 5 (a .j))
 
--- what the rows say, of the registers that are loaded
-rows : (c : tie.After-refusal) (g : Process)
-    → recordAt (view (c .before .before .before .before .before .args .m .now)) (c .before .before .before .before .before .args .r .0)
-    ≡ running g
-    → c .refusal .result
-    ≡ ownReply g
-    (run (c .before .before .before .before .before .args .place) (c .before .before .before .before .before .args .n)
-    (slotsAt (view (c .before .before .before .before .before .args .m .now) .code) (c .before .before .before .before .before .args .at) 5
-    (c .before .before .before .before .before .args .j)))
-rows c g is =
+-- the registers are loaded and the rows have replied
+begun : (c : tie.After-refusal) → let s = c .before .before .before .before .before in
+    Begun (s .args .m .now) (s .args .r .0) (this s) (c .before .before .load .result) (c .refusal .result)
+begun c =
     let at-load = c .before .before in
     let at-start = at-load .before .before .before in
-    let within = registers-ok (at-start .args .m .now) (at-start .pre .0) _ g is in
-    c .refusal .ensures g (at-start .args .place) within (held at-load g is)
+    record {
+      sound = at-start .pre .0;
+      load-is = at-load .load .ensures;
+      reply-is = λ g w e. c .refusal .ensures g (at-start .args .place) w e;
+    }
 
 returns : tie.Need-returns
 returns c next g is =
-    let at-number = c .before in
-    let at-refusal = at-number .before .before in
-    let a = at-refusal .before .before .before .before .before .args in
-    refused-step _
-    (own-refused (view (a .m .now)) (a .r .0) next g _ _ (sym (rows at-refusal g is) ∙ at-number .number .given .1))
+    let at-number = c .before in own-step (told (begun (at-number .before .before)) (at-number .number .given .1)) next g is
 
 enum-told : tie.Need-enum-told
 enum-told c = search needs
 
+-- no row holds
+passed : (c : tie.After-enum-told) → let s = c .before .before .before .before .before .before .before in
+    Begun (s .args .m .now) (s .args .r .0) (this s) (c .before .before .before .before .load .result) Done
+passed c = told (begun (c .before .before)) (c .enum-told .given .1)
+
 callee-requires : tie.Need-callee-requires
 callee-requires c κs =
     let at-told = c .before in
-    let at-refusal = at-told .before .before in
-    let at-load = at-refusal .before .before in
-    let at-start = at-load .before .before .before in
+    let at-start = at-told .before .before .before .before .before .before .before in
     let p = at-start .pre in
+    let b = passed at-told in
     let g = p .1 .process in
     let is = p .1 .runs in
-    let some = enough g (at-start .args .place) _ _ (sym (rows at-refusal g is) ∙ at-told .enum-told .given .1) in
-    let within = registers-ok _ (p .0) _ g is .stack-within in
-    ((p .0, p .2), (omega (arith, some, stack-count g (held at-load g is)), omega (arith, some, within)))
+    let some = enough g (at-start .args .place) _ _ (passes b g is) in
+    let count = by-fields g (held b g is) .stack-count-is in
+    ((p .0, p .2), (omega (arith, some, count), omega (arith, some, within b g is .stack-within)))
 
 save-running-requires : tie.Need-save-running-requires
 save-running-requires c κs =
@@ -86,15 +79,13 @@ returns-2 c next g is =
     let at-save = c .before .before in
     let at-callee = at-save .before .before in
     let at-told = at-callee .before .before in
-    let at-refusal = at-told .before .before in
-    let at-load = at-refusal .before .before in
-    let at-start = at-load .before .before .before in
+    let at-start = at-told .before .before .before .before .before .before .before in
     let m = at-start .args .m .now in
     let s = at-start .pre .0 in
-    let passes = sym (rows at-refusal g is) ∙ at-told .enum-told .given .1 in
-    let after = at-callee .callee .ensures g (registers-ok m s _ g is) (held at-load g is) in
-    done-step m _ (run-done g (at-start .args .place) _ _ passes (view m) _ next)
-    (at-save .save-running .ensures (view m) _ (sized m s _ g is) (s .laid-out) after)
+    let b = passed at-told in
+    let after = at-callee .callee .ensures g (within b g is) (held b g is) in
+    done-step m _ (run-done g (at-start .args .place) _ _ (passes b g is) (view m) _ next)
+    (at-save .save-running .ensures (view m) _ (memory-sized m s) (s .laid-out) after)
 
 pub run-spec : {M : Type 1} → statement M
 run-spec =

@@ -1,19 +1,13 @@
 -- Both ends freed, then their partners paired. Assumes nothing.
 use mathlib.Core.Path.{refl, ap, _∙_}
-use mathlib.Core.List.{List}
-use Prim.Native.Nat.{ℕ}
 use borrow.Author.Needs.{needs}
 use Rattle.rules.specs.Layout.{layout, view}
 use Rattle.rules.specs.Numbers.{endNumber}
-use Rattle.keeping.specs.Demand3.{SoundMemory}
-use Rattle.keeping.proofs.LayoutLaws.{Sized}
 use Rattle.ends.proofs.Changes.{sized-anew}
+use Rattle.stepping.proofs.Steps.{memory-sized}
 use Rattle.processes.proofs.JoinCases.{Joins, joins}
 use Rattle.processes.proofs.joining.join.Statement.{statement}
 use Rattle.processes.proofs.joining.join.Tie as tie
-
-all-there : (m : List ℕ) → SoundMemory m → Sized (view m)
-all-there m s = record { records-sized = s .state-sound .S1 .record-count; ends-sized = s .state-sound .S1 .end-count }
 
 partner-requires : tie.Need-partner-requires
 partner-requires c κs =
@@ -30,14 +24,12 @@ partner-requires-2 c κs =
     (search needs, joins st (p .0 .state-sound) _ _ (p .1) _ _ refl refl .y-in-range)
 
 -- what is known of the two ends and of their partners, as they are read
-known : (c : tie.After-partner2)
-    → Joins (view (c .before .before .before .before .before .args .m .now)) (c .before .before .before .before .before .pre .1 .0 .state-sound)
-    (endNumber (c .before .before .before .before .before .args .x)) (endNumber (c .before .before .before .before .before .args .y))
-    (c .before .before .before .before .before .pre .1 .1) (endNumber (c .before .before .partner .result)) (endNumber (c .partner2 .result))
-    (c .before .before .partner .ensures _ (all-there _ (c .before .before .before .before .before .pre .1 .0))
-    (c .before .before .before .before .before .pre .1 .0 .laid-out))
-    (c .partner2 .ensures _ (all-there _ (c .before .before .before .before .before .pre .1 .0))
-    (c .before .before .before .before .before .pre .1 .0 .laid-out))
+known : (c : tie.After-partner2) → let start = c .before .before .before .before .before in
+    let s = start .pre .1 .0 in
+    let all = memory-sized _ s in
+    Joins (view (start .args .m .now)) (s .state-sound) (endNumber (start .args .x)) (endNumber (start .args .y)) (start .pre .1 .1)
+    (endNumber (c .before .before .partner .result)) (endNumber (c .partner2 .result))
+    (c .before .before .partner .ensures _ all (s .laid-out)) (c .partner2 .ensures _ all (s .laid-out))
 known c = joins _ _ _ _ _ _ _ _ _
 
 free-requires : tie.Need-free-requires
@@ -73,7 +65,7 @@ returns c =
     let s = at-start .pre .1 .0 in
     let k = known at-partner2 in
     let st = view (at-start .args .m .now) in
-    let all = all-there _ s in
+    let all = memory-sized _ s in
     let all1 = sized-anew st _ _ all in
     let all2 = sized-anew _ _ _ all1 in
     let m1 = at-free .free .ensures st all (s .laid-out) (k .x-empty) in

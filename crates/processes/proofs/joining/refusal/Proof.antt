@@ -7,9 +7,10 @@ use borrow.Author.Tests.{eq-eqb, ne-eqb}
 use Rattle.rules.specs.State.{State, Registers as Process, endAt, endIn, isFreeEnd}
 use Rattle.rules.specs.Causes.{partners}
 use Rattle.rules.specs.Layout.{layout}
-use Rattle.rules.specs.Numbers.{slotNumber, endNumber}
+use Rattle.rules.specs.Numbers.{endNumber}
 use Rattle.keeping.proofs.LayoutLaws.{Sized}
-use Rattle.processes.proofs.JoinRows.{one-slot-twice, two-partners, first-queued, second-queued, no-row, mated, some-queued, none-queued}
+use Rattle.processes.proofs.JoinRows.{one-slot-twice, two-partners, first-queued, second-queued, no-row, mated}
+use Rattle.processes.proofs.JoinRows.{some-queued, none-queued}
 use Rattle.processes.proofs.joining.refusal.Statement.{statement}
 use Rattle.processes.proofs.joining.refusal.Tie as tie
 
@@ -35,15 +36,9 @@ queued-requires : tie.Need-queued-requires
 queued-requires c κs = search needs
 
 -- rows 12 are passed
-apart : (c : tie.Else2) (st : State) (g : Process) → Sized st → c .before .before .before .before .before .before .before .before .args .m .now ≡ layout st
-    → endNumber (c .before .before .before .before .before .before .before .before .args .x)
-    ≡ endIn g (slotNumber (c .before .before .before .before .before .before .before .before .args .c))
-    → endNumber (c .before .before .before .before .before .before .before .before .args .y)
-    ≡ endIn g (slotNumber (c .before .before .before .before .before .before .before .before .args .d))
-    → isFreeEnd (endAt st (endNumber (c .before .before .before .before .before .before .before .before .args .x))) ≡ false
-    → partners st (slotNumber (c .before .before .before .before .before .before .before .before .args .c))
-    (slotNumber (c .before .before .before .before .before .before .before .before .args .d)) g
-    ≡ false
+apart : (c : tie.Else2) (st : State) (g : Process) → let a = c .before .before .before .before .before .before .before .before .args in
+    Sized st → a .m .now ≡ layout st → endNumber (a .x) ≡ endIn g (a .c .0) → endNumber (a .y) ≡ endIn g (a .d .0)
+    → isFreeEnd (endAt st (endNumber (a .x))) ≡ false → partners st (a .c .0) (a .d .0) g ≡ false
 apart c st g sized laid xe ye in-use =
     let at-partner = c .before .before .before in
     let a = at-partner .before .before .before .before .before .args in

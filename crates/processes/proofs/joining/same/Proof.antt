@@ -6,12 +6,10 @@ use borrow.Author.Needs.{needs}
 use Rattle.rules.specs.State.{Registers as Process, running, recordAt, endIn, endAt, isFreeEnd}
 use Rattle.rules.specs.Instruction.{same}
 use Rattle.rules.specs.Layout.{layout, view}
-use Rattle.rules.specs.Numbers.{endNumber, slotNumber}
+use Rattle.rules.specs.Numbers.{endNumber}
 use Rattle.rules.specs.declared.Reply.the-variants.{Done}
-use Rattle.registers.specs.Registers.{registersOf}
-use Rattle.causes.specs.Own.{ownReply}
-use Rattle.causes.proofs.Shared.{own-refused}
-use Rattle.stepping.proofs.Steps.{refused-step, done-step, in-range, sized, registers-ok, held-is}
+use Rattle.stepping.proofs.Steps.{refused-step, done-step, memory-sized, in-range}
+use Rattle.stepping.proofs.Begun.{Begun, told, within, held, own-step, passes}
 use Rattle.processes.specs.Joinable.{sharedReply}
 use Rattle.processes.proofs.JoinCases.{first-end, second-end, joinable, shared-refused, same-done, sized-joined, same-after}
 use Rattle.processes.proofs.joining.same.Statement.{statement}
@@ -29,30 +27,16 @@ enum-known-number c = search needs
 same-length : tie.Need-same-length
 same-length c = search needs
 
--- the registers that are loaded
-held : (c : tie.After-load) (g : Process)
-    → recordAt (view (c .before .before .before .args .m .now)) (c .before .before .before .args .r .0) ≡ running g
-    → c .load .result ≡ registersOf g
-held c g is =
-    let at-start = c .before .before .before in held-is (at-start .args .m .now) (at-start .pre .1 .0) _ g is (c .load .ensures)
-
--- what the rows 5 to 11 say, of the registers that are loaded
-rows : (c : tie.After-same) (g : Process)
-    → recordAt (view (c .before .before .before .before .args .m .now)) (c .before .before .before .before .args .r .0) ≡ running g
-    → c .same .result
-    ≡ ownReply g (same (slotNumber (c .before .before .before .before .args .c)) (slotNumber (c .before .before .before .before .args .d)))
-rows c g is =
+-- the registers are loaded and `causes` has replied
+begun : (c : tie.After-same) → let a = c .before .before .before .before .args in
+    Begun (a .m .now) (a .r .0) (same (a .c .0) (a .d .0)) (c .before .load .result) (c .same .result)
+begun c =
     let at-load = c .before in
-    let at-start = at-load .before .before .before in
-    c .same .ensures g (registers-ok (at-start .args .m .now) (at-start .pre .1 .0) _ g is) (held at-load g is)
+    record { sound = at-load .before .before .before .pre .1 .0; load-is = at-load .load .ensures; reply-is = c .same .ensures }
 
 returns : tie.Need-returns
 returns c next g is =
-    let at-number = c .before in
-    let at-same = at-number .before .before in
-    let a = at-same .before .before .before .before .args in
-    refused-step _
-    (own-refused (view (a .m .now)) (a .r .0) next g _ _ (sym (rows at-same g is) ∙ at-number .number .given .1))
+    let at-number = c .before in own-step (told (begun (at-number .before .before)) (at-number .number .given .1)) next g is
 
 enum-told : tie.Need-enum-told
 enum-told c = search needs
@@ -63,35 +47,19 @@ own-end-requires c κs = search needs
 own-end-requires-2 : tie.Need-own-end-requires-2
 own-end-requires-2 c κs = search needs
 
--- none of the rows 5 to 11 holds
-passes : (c : tie.After-enum-told) (g : Process)
-    → recordAt (view (c .before .before .before .before .before .before .args .m .now)) (c .before .before .before .before .before .before .args .r .0)
-    ≡ running g
-    → ownReply g
-    (same (slotNumber (c .before .before .before .before .before .before .args .c)) (slotNumber (c .before .before .before .before .before .before .args .d)))
-    ≡ Done
-passes c g is = sym (rows (c .before .before) g is) ∙ c .enum-told .given .1
+-- no row 5 to 11 holds
+passed : (c : tie.After-enum-told) → let a = c .before .before .before .before .before .before .args in
+    Begun (a .m .now) (a .r .0) (same (a .c .0) (a .d .0)) (c .before .before .before .load .result) Done
+passed c = told (begun (c .before .before)) (c .enum-told .given .1)
 
 -- the ends that are found
-first : (c : tie.After-own-end) (g : Process)
-    → recordAt (view (c .before .before .before .before .before .before .before .args .m .now))
-    (c .before .before .before .before .before .before .before .args .r .0)
-    ≡ running g
-    → endNumber (c .own-end .result) ≡ endIn g (slotNumber (c .before .before .before .before .before .before .before .args .c))
-first c g is =
-    let at-load = c .before .before .before .before in
-    let at-start = at-load .before .before .before in
-    c .own-end .ensures g (registers-ok (at-start .args .m .now) (at-start .pre .1 .0) _ g is) (held at-load g is)
+first : (c : tie.After-own-end) (g : Process) → let a = c .before .before .before .before .before .before .before .args in
+    recordAt (view (a .m .now)) (a .r .0) ≡ running g → endNumber (c .own-end .result) ≡ endIn g (a .c .0)
+first c g is = let b = passed (c .before) in c .own-end .ensures g (within b g is) (held b g is)
 
-second : (c : tie.After-own-end2) (g : Process)
-    → recordAt (view (c .before .before .before .before .before .before .before .before .args .m .now))
-    (c .before .before .before .before .before .before .before .before .args .r .0)
-    ≡ running g
-    → endNumber (c .own-end2 .result) ≡ endIn g (slotNumber (c .before .before .before .before .before .before .before .before .args .d))
-second c g is =
-    let at-load = c .before .before .before .before .before in
-    let at-start = at-load .before .before .before in
-    c .own-end2 .ensures g (registers-ok (at-start .args .m .now) (at-start .pre .1 .0) _ g is) (held at-load g is)
+second : (c : tie.After-own-end2) (g : Process) → let a = c .before .before .before .before .before .before .before .before .args in
+    recordAt (view (a .m .now)) (a .r .0) ≡ running g → endNumber (c .own-end2 .result) ≡ endIn g (a .d .0)
+second c g is = let b = passed (c .before .before) in c .own-end2 .ensures g (within b g is) (held b g is)
 
 refusal-requires : tie.Need-refusal-requires
 refusal-requires c κs =
@@ -104,7 +72,7 @@ refusal-requires c κs =
     let s = p .1 .0 .state-sound in
     let g = p .1 .1 .process in
     let is = p .1 .1 .runs in
-    let ok = passes at-told g is in
+    let ok = passes (passed at-told) g is in
     let x = first-end (view (a .m .now)) s (a .r .0) g is (a .c .0) (a .d .0) ok .in-range in
     let y = second-end (view (a .m .now)) s (a .r .0) g is (a .c .0) (a .d .0) ok .in-range in
     (p .0, omega (arith, x, first at-first g is), omega (arith, y, second at-second g is))
@@ -117,13 +85,8 @@ same-length-2 c = search needs
 
 -- what the rows 12 to 15 say
 shared : (c : tie.After-refusal) (g : Process)
-    → recordAt (view (c .before .before .before .before .before .before .before .before .before .before .args .m .now))
-    (c .before .before .before .before .before .before .before .before .before .before .args .r .0)
-    ≡ running g
-    → c .refusal .result
-    ≡ sharedReply (view (c .before .before .before .before .before .before .before .before .before .before .args .m .now)) g
-    (same (slotNumber (c .before .before .before .before .before .before .before .before .before .before .args .c))
-    (slotNumber (c .before .before .before .before .before .before .before .before .before .before .args .d)))
+    → let a = c .before .before .before .before .before .before .before .before .before .before .args in
+    recordAt (view (a .m .now)) (a .r .0) ≡ running g → c .refusal .result ≡ sharedReply (view (a .m .now)) g (same (a .c .0) (a .d .0))
 shared c g is =
     let at-second = c .before .before in
     let at-first = at-second .before in
@@ -133,8 +96,8 @@ shared c g is =
     let m = a .m .now in
     let s = at-start .pre .1 .0 in
     let x = first at-first g is in
-    let used-x = first-end (view m) (s .state-sound) (a .r .0) g is (a .c .0) (a .d .0) (passes at-told g is) .in-use in
-    c .refusal .ensures (view m) g (sized m s _ g is) (s .laid-out) x (second at-second g is)
+    let used-x = first-end (view m) (s .state-sound) (a .r .0) g is (a .c .0) (a .d .0) (passes (passed at-told) g is) .in-use in
+    c .refusal .ensures (view m) g (memory-sized m s) (s .laid-out) x (second at-second g is)
     (ap (λ (e : ℕ). isFreeEnd (endAt (view m) e)) x ∙ used-x)
 
 returns-2 : tie.Need-returns-2
@@ -146,7 +109,7 @@ returns-2 c next g is =
     let a = at-start .args in
     let s = at-start .pre .1 .0 .state-sound in
     refused-step _
-    (shared-refused (view (a .m .now)) s (a .r .0) g is (a .c .0) (a .d .0) (passes at-told g is) next _
+    (shared-refused (view (a .m .now)) s (a .r .0) g is (a .c .0) (a .d .0) (passes (passed at-told) g is) next _
     (sym (shared at-refusal g is) ∙ at-number .number2 .given .1))
 
 enum-told-2 : tie.Need-enum-told-2
@@ -165,7 +128,7 @@ join-requires c κs =
     let st = view (a .m .now) in
     let g = p .1 .1 .process in
     let is = p .1 .1 .runs in
-    let j = joinable st (p .1 .0 .state-sound) (a .r .0) g is (a .c .0) (a .d .0) (passes at-told g is)
+    let j = joinable st (p .1 .0 .state-sound) (a .r .0) g is (a .c .0) (a .d .0) (passes (passed at-told) g is)
     (sym (shared at-refusal g is) ∙ at-none .enum-told2 .given .1) in
     (p .0, (p .1 .0, rw (first at-first g is, second at-second g is) j))
 
@@ -193,8 +156,8 @@ returns-3 c next g is =
     let m = a .m .now in
     let s = at-start .pre .1 .0 in
     let none = sym (shared at-refusal g is) ∙ at-none .enum-told2 .given .1 in
-    let anew = at-clear .clear .ensures _ (sized-joined (view m) _ _ (sized m s _ g is)) (at-join .join .ensures) in
-    done-step m _ (same-done (view m) (s .state-sound) (a .r .0) g is (a .c .0) (a .d .0) (passes at-told g is) next none)
+    let anew = at-clear .clear .ensures _ (sized-joined (view m) _ _ (memory-sized m s)) (at-join .join .ensures) in
+    done-step m _ (same-done (view m) (s .state-sound) (a .r .0) g is (a .c .0) (a .d .0) (passes (passed at-told) g is) next none)
     (anew ∙ ap layout (same-after (view m) (a .r .0) next g (a .c .0) (a .d .0) _ _ (first at-first g is) (second at-second g is)))
 
 pub same-spec : {M : Type 1} → statement M

@@ -3,8 +3,8 @@ use mathlib.Core.Path.{ap, _∙_}
 use borrow.Author.Needs.{needs}
 use Rattle.rules.specs.Layout.{layout, view}
 use Rattle.rules.specs.Numbers.{recordNumber, endNumber}
-use Rattle.stepping.proofs.Steps.{in-range, sized, registers-ok}
-use Rattle.processes.proofs.PlugCases.{Taken, taken, sized-record, sized-paired, divided}
+use Rattle.stepping.proofs.Steps.{memory-sized, sized-record, in-range, registers-ok}
+use Rattle.processes.proofs.PlugCases.{Taken, taken, sized-paired, divided}
 use Rattle.processes.proofs.plugging.divide.Statement.{statement}
 use Rattle.processes.proofs.plugging.divide.Tie as tie
 
@@ -18,8 +18,8 @@ names c =
     let at-start = at-lowest .before .before in
     let m = at-start .args .m .now in
     let p = at-start .pre .1 in
-    let all = sized m (p .0) _ (p .1 .process) (p .1 .runs) in
-    taken (view m) (p .0 .state-sound) all _ _ _ _ _ (p .2) (at-lowest .lowest .ensures) (at-without .without-lowest .ensures) (c .lowest2 .ensures)
+    taken (view m) (p .0 .state-sound) (memory-sized m (p .0)) _ _ _ _ _ (p .2) (at-lowest .lowest .ensures)
+    (at-without .without-lowest .ensures) (c .lowest2 .ensures)
 
 lowest-requires : tie.Need-lowest-requires
 lowest-requires c κs = search needs
@@ -62,7 +62,7 @@ returns c next g is h =
     let s = at-start .pre .1 .0 in
     let st = view m in
     let t = names at-lowest2 in
-    let all = sized m s _ g is in
+    let all = memory-sized m s in
     let slots = registers-ok m s _ g is .slots-within in
     let paired = at-pair .pair .ensures st all (s .laid-out) (t .p-free) (t .q-free) (t .differ) in
     let with-pair = sized-paired st _ _ all in

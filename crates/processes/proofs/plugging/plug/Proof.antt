@@ -1,20 +1,19 @@
 -- plug: what its rows say, 15, or the two processes. Assumes nothing.
-use mathlib.Core.Path.{_≡_, sym, _∙_}
+use mathlib.Core.Path.{_≡_}
+use mathlib.Core.Bool.{false}
 use native.Mathlib.Omega.{arith}
-use lib.ListN.{length}
 use borrow.Author.Needs.{needs}
-use borrow.Author.Tests.{lt-ltb, le-ltb}
-use Rattle.rules.specs.State.{Registers as Process, running, recordAt, freeEnds}
-use Rattle.rules.specs.Instruction.{plug}
+use Rattle.rules.specs.State.{lowestFreeRecord}
+use Rattle.rules.specs.Instruction.{Instruction, plug}
+use Rattle.rules.specs.Causes.{fewFreeEnds, noFreeRecord}
 use Rattle.rules.specs.Layout.{view, freeWord}
+use Rattle.rules.specs.declared.Reply.the-variants.{Done}
 use Rattle.keeping.proofs.Memories.{memory-length}
-use Rattle.registers.specs.Registers.{registersOf}
-use Rattle.ends.proofs.Words.{agrees}
-use Rattle.causes.specs.Own.{ownReply}
-use Rattle.causes.proofs.Shared.{own-refused}
-use Rattle.stepping.proofs.Steps.{refused-step, done-step, in-range, sized, registers-ok, held-is}
+use Rattle.stepping.proofs.Steps.{refused-step, done-step, memory-sized, in-range}
+use Rattle.stepping.proofs.FreeEnds.{few-ends, enough-ends}
 use Rattle.stepping.proofs.FreeRecords.{no-record, some-record}
-use Rattle.processes.proofs.PlugCases.{few-ends, no-free-record, plugged}
+use Rattle.stepping.proofs.Begun.{Begun, told, held, own-step, passes}
+use Rattle.processes.proofs.PlugCases.{too-few-ends, no-free-record, plugged}
 use Rattle.processes.proofs.plugging.plug.Statement.{statement}
 use Rattle.processes.proofs.plugging.plug.Tie as tie
 
@@ -30,36 +29,28 @@ enum-known-number c = search needs
 same-length : tie.Need-same-length
 same-length c = search needs
 
--- the registers that are loaded
-held : (c : tie.After-load) (g : Process)
-    → recordAt (view (c .before .before .before .args .m .now)) (c .before .before .before .args .r .0) ≡ running g
-    → c .load .result ≡ registersOf g
-held c g is =
-    let at-start = c .before .before .before in held-is (at-start .args .m .now) (at-start .pre .0) _ g is (c .load .ensures)
+-- the instruction
+abbrev this : tie.Start → Instruction
+this s = let a = s .args in plug (a .a .0) (a .first .set) (a .first .place) (a .second .set) (a .second .place)
 
--- what the rows say, of the registers that are loaded
-rows : (c : tie.After-plug) (g : Process)
-    → recordAt (view (c .before .before .before .before .args .m .now)) (c .before .before .before .before .args .r .0) ≡ running g
-    → c .plug .result
-    ≡ ownReply g
-    (plug (c .before .before .before .before .args .a .0) (c .before .before .before .before .args .first .set)
-    (c .before .before .before .before .args .first .place) (c .before .before .before .before .args .second .set)
-    (c .before .before .before .before .args .second .place))
-rows c g is =
+-- the registers are loaded and `causes` has replied
+begun : (c : tie.After-plug) → let s = c .before .before .before .before in
+    Begun (s .args .m .now) (s .args .r .0) (this s) (c .before .load .result) (c .plug .result)
+begun c =
     let at-load = c .before in
-    let at-start = at-load .before .before .before in
-    c .plug .ensures g (registers-ok (at-start .args .m .now) (at-start .pre .0) _ g is) (held at-load g is)
+    record { sound = at-load .before .before .before .pre .0; load-is = at-load .load .ensures; reply-is = c .plug .ensures }
 
 returns : tie.Need-returns
 returns c next g is =
-    let at-number = c .before in
-    let at-plug = at-number .before .before in
-    let a = at-plug .before .before .before .before .args in
-    refused-step _
-    (own-refused (view (a .m .now)) (a .r .0) next g _ _ (sym (rows at-plug g is) ∙ at-number .number .given .1))
+    let at-number = c .before in own-step (told (begun (at-number .before .before)) (at-number .number .given .1)) next g is
 
 enum-told : tie.Need-enum-told
 enum-told c = search needs
+
+-- no row 5 to 11 holds
+passed : (c : tie.After-enum-told) → let s = c .before .before .before .before .before .before in
+    Begun (s .args .m .now) (s .args .r .0) (this s) (c .before .before .before .load .result) Done
+passed c = told (begun (c .before .before)) (c .enum-told .given .1)
 
 free-word-requires : tie.Need-free-word-requires
 free-word-requires c κs = memory-length _ (c .before .before .before .before .before .before .before .pre .0)
@@ -71,35 +62,22 @@ same-length-2 : tie.Need-same-length-2
 same-length-2 c = search needs
 
 -- the word that is read is that of the free ends
-word-read : (c : tie.After-free-word)
-    → c .free-word .result ≡ freeWord (view (c .before .before .before .before .before .before .before .before .args .m .now) .ends)
+word-read : (c : tie.After-free-word) → let s = c .before .before .before .before .before .before .before .before in
+    c .free-word .result ≡ freeWord (view (s .args .m .now) .ends)
 word-read c =
-    let at-start = c .before .before .before .before .before .before .before .before in
-    let p = at-start .pre in
-    let m = at-start .args .m .now in
-    c .free-word .ensures (view m) (sized m (p .0) _ (p .1 .process) (p .1 .runs)) (p .0 .laid-out)
-
--- how many ends are free
-counted : (c : tie.After-count)
-    → c .count .result ≡ length (freeEnds (view (c .before .before .before .before .before .before .before .before .before .args .m .now)))
-counted c =
-    let at-word = c .before in
-    let at-start = at-word .before .before .before .before .before .before .before .before in
-    let p = at-start .pre in
-    let m = at-start .args .m .now in
-    let all = sized m (p .0) _ (p .1 .process) (p .1 .runs) in
-    c .count .ensures ∙ agrees (view m) all _ (word-read at-word) .count
+    let s = c .before .before .before .before .before .before .before .before .pre .0 in
+    c .free-word .ensures _ (memory-sized _ s) (s .laid-out)
 
 returns-2 : tie.Need-returns-2
 returns-2 c next g is =
     let at-count = c .before in
-    let at-told = at-count .before .before .before in
-    let at-plug = at-told .before .before in
-    let a = at-plug .before .before .before .before .args in
+    let at-word = at-count .before in
+    let at-told = at-word .before .before in
+    let at-start = at-told .before .before .before .before .before .before in
+    let a = at-start .args in
     let st = view (a .m .now) in
-    let passes = sym (rows at-plug g is) ∙ at-told .enum-told .given .1 in
-    let few = lt-ltb (length (freeEnds st)) 2 (omega (arith, c .if1 .taken, counted at-count)) in
-    refused-step 15 (few-ends st (a .r .0) next g _ _ _ _ _ passes few)
+    let few = few-ends st (memory-sized _ (at-start .pre .0)) _ (word-read at-word) (at-count .count .ensures) 2 (c .if1 .taken) in
+    refused-step 15 (too-few-ends st (a .r .0) next g _ _ _ _ _ (passes (passed at-told) g is) few)
 
 lowest-free-record-requires : tie.Need-lowest-free-record-requires
 lowest-free-record-requires c κs =
@@ -111,46 +89,53 @@ cast-if2 c = search needs
 same-length-3 : tie.Need-same-length-3
 same-length-3 c = search needs
 
+-- two ends are free
+two : (c : tie.Else1) → let s = c .before .before .before .before .before .before .before .before .before .before in
+    fewFreeEnds 2 (view (s .args .m .now)) ≡ false
+two c =
+    let at-count = c .before in
+    let at-word = at-count .before in
+    let s = at-word .before .before .before .before .before .before .before .before .pre .0 in
+    enough-ends _ (memory-sized _ s) _ (word-read at-word) (at-count .count .ensures) 2 (c .if1 .left)
+
+-- the record that is found is the lowest free one
+new-read : (c : tie.After-lowest-free-record) → let at-word = c .before .before .before .before in
+    let s = at-word .before .before .before .before .before .before .before .before in
+    c .lowest-free-record .result .0 ≡ lowestFreeRecord (view (s .args .m .now))
+new-read c =
+    let at-word = c .before .before .before .before in
+    let s = at-word .before .before .before .before .before .before .before .before .pre .0 in
+    c .lowest-free-record .ensures _ (memory-sized _ s) (s .laid-out)
+
 returns-3 : tie.Need-returns-3
 returns-3 c next g is =
     let at-new = c .before .before in
     let at-if1 = at-new .before .before in
-    let at-count = at-if1 .before in
-    let at-told = at-count .before .before .before in
-    let at-plug = at-told .before .before in
-    let at-start = at-plug .before .before .before .before in
+    let at-told = at-if1 .before .before .before .before in
+    let at-start = at-told .before .before .before .before .before .before in
     let a = at-start .args in
-    let m = a .m .now in
-    let s = at-start .pre .0 in
-    let st = view m in
-    let passes = sym (rows at-plug g is) ∙ at-told .enum-told .given .1 in
-    let enough = le-ltb (length (freeEnds st)) 2 (omega (arith, at-if1 .if1 .left, counted at-count)) in
-    let new-is = at-new .lowest-free-record .ensures st (sized m s _ g is) (s .laid-out) in
-    let none = no-record st (s .state-sound) (omega (arith, c .if2 .taken, new-is)) in
-    refused-step 15 (no-free-record st (a .r .0) next g _ _ _ _ _ passes enough none)
+    let st = view (a .m .now) in
+    let none = no-record st (at-start .pre .0 .state-sound) (omega (arith, c .if2 .taken, new-read at-new)) in
+    refused-step 15 (no-free-record st (a .r .0) next g _ _ _ _ _ (passes (passed at-told) g is) (two at-if1) none)
+
+-- a record is free
+some : (c : tie.Else2) → let at-word = c .before .before .before .before .before .before in
+    let s = at-word .before .before .before .before .before .before .before .before in
+    noFreeRecord (view (s .args .m .now)) ≡ false
+some c = let at-new = c .before .before in some-record _ (omega (arith, c .if2 .left, new-read at-new))
 
 divide-requires : tie.Need-divide-requires
 divide-requires c κs =
     let at-if2 = c .before in
     let at-new = at-if2 .before .before in
     let at-if1 = at-new .before .before in
-    let at-count = at-if1 .before in
-    let at-start = at-count .before .before .before .before .before .before .before .before .before in
-    let p = at-start .pre in
-    let m = at-start .args .m .now in
-    let s = p .0 in
-    let st = view m in
-    let new-is = at-new .lowest-free-record .ensures st (sized m s _ (p .1 .process) (p .1 .runs)) (s .laid-out) in (
-      memory-length _ s,
+    let at-word = at-if1 .before .before in
+    let p = at-word .before .before .before .before .before .before .before .before .pre in (
+      memory-length _ (p .0),
       (
-        s,
+        p .0,
         p .1,
-        record {
-          word-is = word-read (at-count .before);
-          two-ends = le-ltb (length (freeEnds st)) 2 (omega (arith, at-if1 .if1 .left, counted at-count));
-          new-is = new-is;
-          a-record = some-record st (omega (arith, at-if2 .if2 .left, new-is));
-        },
+        record { word-is = word-read at-word; two-ends = two at-if1; new-is = new-read at-new; a-record = some at-if2 },
       ),
     )
 
@@ -161,23 +146,13 @@ returns-4 : tie.Need-returns-4
 returns-4 c next g is =
     let at-divide = c .before .before in
     let at-if2 = at-divide .before .before in
-    let at-new = at-if2 .before .before in
-    let at-if1 = at-new .before .before in
-    let at-count = at-if1 .before in
-    let at-told = at-count .before .before .before in
-    let at-plug = at-told .before .before in
-    let at-load = at-plug .before in
-    let at-start = at-load .before .before .before in
-    let a = at-start .args in
+    let at-if1 = at-if2 .before .before .before .before in
+    let at-told = at-if1 .before .before .before .before in
+    let a = at-told .before .before .before .before .before .before .args in
     let m = a .m .now in
-    let s = at-start .pre .0 in
-    let st = view m in
-    let passes = sym (rows at-plug g is) ∙ at-told .enum-told .given .1 in
-    let enough = le-ltb (length (freeEnds st)) 2 (omega (arith, at-if1 .if1 .left, counted at-count)) in
-    let new-is = at-new .lowest-free-record .ensures st (sized m s _ g is) (s .laid-out) in
-    let some = some-record st (omega (arith, at-if2 .if2 .left, new-is)) in
-    done-step m _ (plugged st (a .r .0) next g _ _ _ _ _ passes enough some)
-    (at-divide .divide .ensures next g is (held at-load g is))
+    let b = passed at-told in
+    done-step m _ (plugged (view m) (a .r .0) next g _ _ _ _ _ (passes b g is) (two at-if1) (some at-if2))
+    (at-divide .divide .ensures next g is (held b g is))
 
 pub plug-spec : {M : Type 1} → statement M
 plug-spec =

@@ -1,14 +1,13 @@
 -- `count_carried` adds one for each of a split's two ends, and nothing else. Assumes nothing.
-use mathlib.Core.Path.{ap}
+use mathlib.Core.Path.{refl}
 use Prim.Native.Nat.{ℕ, _+_}
 use native.Mathlib.Omega.{arith}
 use Rattle.rules.specs.Limits.{endCount}
 use Rattle.rules.specs.Count.{δ}
 use Rattle.rules.specs.Sound.{inLast}
-use Rattle.soundness.specs.declared.lasts.Last.{Last}
 use Rattle.soundness.specs.Lasts.{lastMeaning}
 use Rattle.soundness.specs.Counts.{placesInAll, Added}
-use Rattle.soundness.proofs.Counting.{added-none, added-one, added-both, added-as, added-below, one-few}
+use Rattle.soundness.proofs.Counting.{added-nothing, added-one, added-both, added-as, added-below, one-few}
 use Rattle.soundness.proofs.Standing.{split-within, split-counts}
 use borrow.Author.Needs.{needs}
 use Rattle.soundness.proofs.holders.count_carried.Statement.{statement}
@@ -63,8 +62,7 @@ enum-told-3 c = search needs
 returns : tie.Need-returns
 returns c =
     let a = c .before .before .before .args in
-    added-none endCount (λ (e : ℕ). inLast e (lastMeaning (a .last))) (a .counts .now)
-    (λ e. ap (λ (l : Last). inLast e (lastMeaning l)) (c .enum-told .given .1))
+    added-nothing endCount inLast (a .counts .now) (c .enum-told .given .1) (λ e. refl)
 
 same-length : tie.Need-same-length
 same-length c = search needs
@@ -87,14 +85,12 @@ returns-2 c =
 returns-3 : tie.Need-returns-3
 returns-3 c =
     let a = c .before .before .before .args in
-    added-none endCount (λ (e : ℕ). inLast e (lastMeaning (a .last))) (a .counts .now)
-    (λ e. ap (λ (l : Last). inLast e (lastMeaning l)) (c .enum-told2 .given .1))
+    added-nothing endCount inLast (a .counts .now) (c .enum-told2 .given .1) (λ e. refl)
 
 returns-4 : tie.Need-returns-4
 returns-4 c =
     let a = c .before .before .before .args in
-    added-none endCount (λ (e : ℕ). inLast e (lastMeaning (a .last))) (a .counts .now)
-    (λ e. ap (λ (l : Last). inLast e (lastMeaning l)) (c .enum-told3 .given .1))
+    added-nothing endCount inLast (a .counts .now) (c .enum-told3 .given .1) (λ e. refl)
 
 pub count-carried-spec : {M : Type 1} → statement M
 count-carried-spec =

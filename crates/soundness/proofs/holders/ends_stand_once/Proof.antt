@@ -1,14 +1,14 @@
 -- `ends_stand_once` looks at one end after the other, with its count. The invariant: the first e pass. Assumes nothing.
-use mathlib.Core.Path.{_≡_, sym, _∙_}
+use mathlib.Core.Path.{_≡_}
 use mathlib.Core.Bool.{true}
 use Prim.Native.Nat.{_-_, _≤_}
 use native.Mathlib.Omega.{arith}
-use borrow.Author.Tests.{not-true, not-false}
 use Rattle.rules.specs.Limits.{endCount}
 use Rattle.rules.specs.SoundTest.{every, placesTest}
 use Rattle.rules.specs.Layout.{view}
-use Rattle.canonical.proofs.Tests.{every-none, every-more, every-fails, reached}
+use Rattle.canonical.proofs.Tests.{every-none, reached}
 use Rattle.soundness.proofs.Standing.{end-canonical, places-test}
+use Rattle.soundness.proofs.Turns.{turn-fails, turn-passes}
 use borrow.Author.Needs.{needs}
 use Rattle.soundness.proofs.holders.ends_stand_once.Statement.{statement}
 use Rattle.soundness.proofs.holders.ends_stand_once.Tie as tie
@@ -62,9 +62,7 @@ returns : tie.Need-returns Inv-loop μ-loop
 returns c =
     let at-stands-once = c .before in
     let at-loop = at-stands-once .before .before in
-    let test = placesTest (view (at-loop .before .before .before .before .args .m .now)) in
-    let failed = sym (told at-stands-once) ∙ not-true (at-stands-once .stands-once .result) (c .if1 .taken) in
-    sym (every-fails test endCount (at-loop .loop .e) (omega arith) failed)
+    turn-fails _ (at-loop .loop .e) (told at-stands-once) endCount (omega arith) (c .if1 .taken)
 
 add-e : tie.Need-add-e Inv-loop μ-loop
 add-e c = search needs
@@ -76,9 +74,7 @@ loop-again : tie.Need-loop-again Inv-loop μ-loop
 loop-again c =
     let at-stands-once = c .before in
     let at-loop = at-stands-once .before .before in
-    let test = placesTest (view (at-loop .before .before .before .before .args .m .now)) in
-    let passed = sym (told at-stands-once) ∙ not-false (at-stands-once .stands-once .result) (c .if1 .left) in
-    (omega arith, every-more test (at-loop .loop .e) (at-loop .loop .inv .1) passed)
+    (omega arith, turn-passes _ (at-loop .loop .e) (told at-stands-once) (at-loop .loop .inv .1) (c .if1 .left))
 
 returns-2 : tie.Need-returns-2 Inv-loop μ-loop
 returns-2 c =

@@ -1,13 +1,13 @@
 -- `ends_are_paired` looks at one end after the other. The invariant: the first e pass. Assumes nothing.
-use mathlib.Core.Path.{_≡_, sym, _∙_}
+use mathlib.Core.Path.{_≡_}
 use mathlib.Core.Bool.{true}
 use Prim.Native.Nat.{_-_, _≤_}
 use native.Mathlib.Omega.{arith}
-use borrow.Author.Tests.{not-true, not-false}
 use Rattle.rules.specs.Limits.{endCount}
 use Rattle.rules.specs.SoundTest.{every, pairedTest}
 use Rattle.rules.specs.Layout.{view}
-use Rattle.canonical.proofs.Tests.{every-none, every-more, every-fails, reached}
+use Rattle.canonical.proofs.Tests.{every-none, reached}
+use Rattle.soundness.proofs.Turns.{turn-fails, turn-passes}
 use borrow.Author.Needs.{needs}
 use Rattle.soundness.proofs.pairs.ends_are_paired.Statement.{statement}
 use Rattle.soundness.proofs.pairs.ends_are_paired.Tie as tie
@@ -31,11 +31,7 @@ returns : tie.Need-returns Inv-loop μ-loop
 returns c =
     let at-is-paired = c .before in
     let at-loop = at-is-paired .before .before in
-    let test = pairedTest (view (at-loop .before .before .before .args .m .now)) in
-    let e = at-loop .loop .e in
-    let answer = at-is-paired .is-paired .ensures in
-    let failed = sym answer ∙ not-true (at-is-paired .is-paired .result) (c .if1 .taken) in
-    sym (every-fails test endCount e (omega arith) failed)
+    turn-fails _ (at-loop .loop .e) (at-is-paired .is-paired .ensures) endCount (omega arith) (c .if1 .taken)
 
 add-e : tie.Need-add-e Inv-loop μ-loop
 add-e c = search needs
@@ -47,11 +43,7 @@ loop-again : tie.Need-loop-again Inv-loop μ-loop
 loop-again c =
     let at-is-paired = c .before in
     let at-loop = at-is-paired .before .before in
-    let test = pairedTest (view (at-loop .before .before .before .args .m .now)) in
-    let e = at-loop .loop .e in
-    let answer = at-is-paired .is-paired .ensures in
-    let passed = sym answer ∙ not-false (at-is-paired .is-paired .result) (c .if1 .left) in
-    (omega arith, every-more test e (at-loop .loop .inv .1) passed)
+    (omega arith, turn-passes _ (at-loop .loop .e) (at-is-paired .is-paired .ensures) (at-loop .loop .inv .1) (c .if1 .left))
 
 returns-2 : tie.Need-returns-2 Inv-loop μ-loop
 returns-2 c =

@@ -1,13 +1,13 @@
 -- `waiting_records_stand` looks at one end after the other. The invariant: the first e pass. Assumes nothing.
-use mathlib.Core.Path.{_≡_, sym, _∙_}
+use mathlib.Core.Path.{_≡_}
 use mathlib.Core.Bool.{true}
 use Prim.Native.Nat.{_-_, _≤_}
 use native.Mathlib.Omega.{arith}
-use borrow.Author.Tests.{not-true, not-false}
 use Rattle.rules.specs.Limits.{endCount}
 use Rattle.rules.specs.SoundTest.{every, standsTest}
 use Rattle.rules.specs.Layout.{view}
-use Rattle.canonical.proofs.Tests.{every-none, every-more, every-fails, reached}
+use Rattle.canonical.proofs.Tests.{every-none, reached}
+use Rattle.soundness.proofs.Turns.{turn-fails, turn-passes}
 use borrow.Author.Needs.{needs}
 use Rattle.soundness.proofs.stands.waiting_records_stand.Statement.{statement}
 use Rattle.soundness.proofs.stands.waiting_records_stand.Tie as tie
@@ -38,9 +38,7 @@ returns : tie.Need-returns Inv-loop μ-loop
 returns c =
     let at-stands = c .before in
     let at-loop = at-stands .before .before .before in
-    let test = standsTest (view (at-loop .before .before .before .args .m .now)) in
-    let failed = sym (at-stands .last-stands .ensures) ∙ not-true (at-stands .last-stands .result) (c .if1 .taken) in
-    sym (every-fails test endCount (at-loop .loop .e) (omega arith) failed)
+    turn-fails _ (at-loop .loop .e) (at-stands .last-stands .ensures) endCount (omega arith) (c .if1 .taken)
 
 add-e : tie.Need-add-e Inv-loop μ-loop
 add-e c = search needs
@@ -52,9 +50,7 @@ loop-again : tie.Need-loop-again Inv-loop μ-loop
 loop-again c =
     let at-stands = c .before in
     let at-loop = at-stands .before .before .before in
-    let test = standsTest (view (at-loop .before .before .before .args .m .now)) in
-    let passed = sym (at-stands .last-stands .ensures) ∙ not-false (at-stands .last-stands .result) (c .if1 .left) in
-    (omega arith, every-more test (at-loop .loop .e) (at-loop .loop .inv .1) passed)
+    (omega arith, turn-passes _ (at-loop .loop .e) (at-stands .last-stands .ensures) (at-loop .loop .inv .1) (c .if1 .left))
 
 returns-2 : tie.Need-returns-2 Inv-loop μ-loop
 returns-2 c =

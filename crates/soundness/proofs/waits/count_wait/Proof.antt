@@ -1,12 +1,11 @@
 -- `count_wait` adds one for the record that a wait names, and nothing else. Assumes nothing.
-use mathlib.Core.Path.{ap}
+use mathlib.Core.Path.{refl}
 use Prim.Native.Nat.{ℕ}
 use native.Mathlib.Omega.{arith}
 use Rattle.rules.specs.Limits.{recordCount}
 use Rattle.rules.specs.Sound.{namedByLast}
-use Rattle.soundness.specs.declared.lasts.Last.{Last}
 use Rattle.soundness.specs.Lasts.{lastMeaning}
-use Rattle.soundness.proofs.Counting.{added-none, added-one, added-as}
+use Rattle.soundness.proofs.Counting.{added-nothing, added-one, added-as}
 use Rattle.soundness.proofs.Waiting.{wait-within, wait-names}
 use borrow.Author.Needs.{needs}
 use Rattle.soundness.proofs.waits.count_wait.Statement.{statement}
@@ -37,20 +36,17 @@ add-one-requires c κs =
 returns : tie.Need-returns
 returns c =
     let a = c .before .before .before .args in
-    added-none recordCount (λ (r : ℕ). namedByLast r (lastMeaning (a .last))) (a .counts .now)
-    (λ r. ap (λ (l : Last). namedByLast r (lastMeaning l)) (c .enum-told .given .1))
+    added-nothing recordCount namedByLast (a .counts .now) (c .enum-told .given .1) (λ r. refl)
 
 returns-2 : tie.Need-returns-2
 returns-2 c =
     let a = c .before .before .before .args in
-    added-none recordCount (λ (r : ℕ). namedByLast r (lastMeaning (a .last))) (a .counts .now)
-    (λ r. ap (λ (l : Last). namedByLast r (lastMeaning l)) (c .enum-told2 .given .1))
+    added-nothing recordCount namedByLast (a .counts .now) (c .enum-told2 .given .1) (λ r. refl)
 
 returns-3 : tie.Need-returns-3
 returns-3 c =
     let a = c .before .before .before .args in
-    added-none recordCount (λ (r : ℕ). namedByLast r (lastMeaning (a .last))) (a .counts .now)
-    (λ r. ap (λ (l : Last). namedByLast r (lastMeaning l)) (c .enum-told3 .given .1))
+    added-nothing recordCount namedByLast (a .counts .now) (c .enum-told3 .given .1) (λ r. refl)
 
 same-length : tie.Need-same-length
 same-length c = search needs

@@ -1,15 +1,15 @@
 -- `records_are_named_rightly` looks at one record after the other, with its count. The invariant: the first i pass. Assumes nothing.
-use mathlib.Core.Path.{_≡_, sym, _∙_}
+use mathlib.Core.Path.{_≡_}
 use mathlib.Core.Bool.{true}
 use Prim.Native.Nat.{_-_, _≤_}
 use native.Mathlib.Omega.{arith}
-use borrow.Author.Tests.{not-true, not-false}
 use Rattle.rules.specs.Limits.{recordCount}
 use Rattle.rules.specs.SoundTest.{every, waitsTest}
 use Rattle.rules.specs.Layout.{viewRegisters, view}
 use Rattle.canonical.specs.Canonical.{recordPart}
-use Rattle.canonical.proofs.Tests.{every-none, every-more, every-fails, reached}
+use Rattle.canonical.proofs.Tests.{every-none, reached}
 use Rattle.soundness.proofs.Waiting.{waits-test}
+use Rattle.soundness.proofs.Turns.{turn-fails, turn-passes}
 use borrow.Author.Needs.{needs}
 use Rattle.soundness.proofs.waits.records_are_named_rightly.Statement.{statement}
 use Rattle.soundness.proofs.waits.records_are_named_rightly.Tie as tie
@@ -60,9 +60,7 @@ returns : tie.Need-returns Inv-loop μ-loop
 returns c =
     let at-named = c .before in
     let at-loop = at-named .before .before .before in
-    let test = waitsTest (view (at-loop .before .before .before .args .m .now)) in
-    let failed = sym (told at-named) ∙ not-true (at-named .is-named-rightly .result) (c .if1 .taken) in
-    sym (every-fails test recordCount (at-loop .loop .i) (omega arith) failed)
+    turn-fails _ (at-loop .loop .i) (told at-named) recordCount (omega arith) (c .if1 .taken)
 
 add-i : tie.Need-add-i Inv-loop μ-loop
 add-i c = search needs
@@ -74,9 +72,7 @@ loop-again : tie.Need-loop-again Inv-loop μ-loop
 loop-again c =
     let at-named = c .before in
     let at-loop = at-named .before .before .before in
-    let test = waitsTest (view (at-loop .before .before .before .args .m .now)) in
-    let passed = sym (told at-named) ∙ not-false (at-named .is-named-rightly .result) (c .if1 .left) in
-    (omega arith, every-more test (at-loop .loop .i) (at-loop .loop .inv .1) passed)
+    (omega arith, turn-passes _ (at-loop .loop .i) (told at-named) (at-loop .loop .inv .1) (c .if1 .left))
 
 returns-2 : tie.Need-returns-2 Inv-loop μ-loop
 returns-2 c =

@@ -1,0 +1,59 @@
+-- `machine_cases::text::line_end` answers an index between the one that it is given and the length. Assumes nothing.
+use Prim.Native.Nat.{_-_, _≤_}
+use lib.ListN.{length}
+use borrow.Author.Needs.{needs}
+use Rattle.machine_cases.proofs.text.line_end.Statement.{statement}
+use Rattle.machine_cases.proofs.text.line_end.Tie as tie
+
+abbrev Inv-loop : tie.InvT-loop
+Inv-loop bytes from at₀ at = (from ≤ at) × (at ≤ length bytes)
+
+abbrev μ-loop : tie.MeasureT-loop
+μ-loop bytes from at₀ at = length bytes - at
+
+loop-holds : tie.Need-loop-holds Inv-loop μ-loop
+loop-holds c = search needs
+
+shared-slice-read-ends-line : tie.Need-shared-slice-read-ends-line Inv-loop μ-loop
+shared-slice-read-ends-line c = search needs
+
+add-byte : tie.Need-add-byte Inv-loop μ-loop
+add-byte c = search needs
+
+byte-requires : tie.Need-byte-requires Inv-loop μ-loop
+byte-requires c κs = search needs
+
+ends-line-requires : tie.Need-ends-line-requires Inv-loop μ-loop
+ends-line-requires c κs = search needs
+
+returns : tie.Need-returns Inv-loop μ-loop
+returns c = search needs
+
+add-at : tie.Need-add-at Inv-loop μ-loop
+add-at c = search needs
+
+loop-less : tie.Need-loop-less Inv-loop μ-loop
+loop-less c = search needs
+
+loop-again : tie.Need-loop-again Inv-loop μ-loop
+loop-again c = search needs
+
+returns-2 : tie.Need-returns-2 Inv-loop μ-loop
+returns-2 c = search needs
+
+pub line-end-spec : {M : Type 1} → statement M
+line-end-spec =
+    tie.close
+    (tie.spec
+    Inv-loop
+    μ-loop
+    loop-holds
+    shared-slice-read-ends-line
+    add-byte
+    byte-requires
+    ends-line-requires
+    returns
+    add-at
+    loop-less
+    loop-again
+    returns-2)
