@@ -1,0 +1,13 @@
+// What a step prints, as document 01's "One run in full" has it: read from the memory before the step is made (reading.rt), the step with
+// what it prints (forward.rt), and both as text in a lent buffer (lines.rt). The definitions are those of `rules`, Printed.
+mod forward; // forward.rt: one step, and what it prints
+mod kinds; // kinds.rt: what is printed
+mod reading; // reading.rt: what the step at a position prints
+
+pub use forward::Forward;
+pub use forward::position_after;
+pub use forward::step_forward;
+pub use kinds::Kind;
+pub use kinds::Name;
+pub use kinds::Printed;
+pub use reading::printed_at;

@@ -1,0 +1,5 @@
+pub mod Texts
+pub mod Decimals
+pub mod Hex
+pub mod Words
+pub mod Back
