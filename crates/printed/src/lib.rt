@@ -2,6 +2,7 @@
 // what it prints (forward.rt), and both as text in a lent buffer (lines.rt). The definitions are those of `rules`, Printed.
 mod forward; // forward.rt: one step, and what it prints
 mod kinds; // kinds.rt: what is printed
+mod lines; // lines.rt: a line as text
 mod reading; // reading.rt: what the step at a position prints
 
 pub use forward::Forward;
@@ -10,4 +11,6 @@ pub use forward::step_forward;
 pub use kinds::Kind;
 pub use kinds::Name;
 pub use kinds::Printed;
+pub use lines::put_line;
+pub use lines::put_refused;
 pub use reading::printed_at;
