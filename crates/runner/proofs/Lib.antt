@@ -1,0 +1,4 @@
+pub mod Search
+pub mod Verdicts
+pub mod Making
+pub mod RunAnswers

@@ -1,0 +1,124 @@
+-- The positions are asked one after the other. The invariant: the memory is as it was, and the next step is the first of the positions that are
+-- left. Assumes nothing.
+use mathlib.Core.Path.{_≡_, refl, sym, ap, _∙_, subst}
+use mathlib.Core.List.{List}
+use Prim.Native.Nat.{ℕ, suc, _+_, _-_, _≤_, _<_}
+use native.Mathlib.Omega.{arith}
+use lib.ListN.{length}
+use borrow.Author.Needs.{needs}
+use Rattle.rules.specs.Limits.{positionCount}
+use Rattle.rules.specs.Run.{firstOf, nextStep}
+use Rattle.rules.specs.Layout.{stateSize, view}
+use Rattle.rules.specs.Promise.{Promise}
+use Rattle.keeping.specs.Demand3.{SoundMemory}
+use Rattle.runner.specs.declared.searching.Stepped.the-variants.{Nowhere, At}
+use Rattle.runner.specs.Runs.{steppedBy, memoryBy}
+use Rattle.runner.proofs.Search.{next-in-range, found-here, not-here, none-found}
+use Rattle.runner.proofs.searching.step_from.Statement.{statement}
+use Rattle.runner.proofs.searching.step_from.Tie as tie
+
+abbrev Inv-loop : tie.InvT-loop
+Inv-loop m₀ lengths position p₀ tried₀ m p tried =
+    (tried ≤ positionCount) × (p < positionCount) × (m ≡ m₀) × (nextStep (view m₀) position ≡ firstOf (positionCount - tried) (view m₀) p)
+
+abbrev μ-loop : tie.MeasureT-loop
+μ-loop m₀ lengths position p₀ tried₀ m p tried = positionCount - tried
+
+loop-holds : tie.Need-loop-holds Inv-loop μ-loop
+unfolding nextStep
+loop-holds c = (omega arith, c .before .pre .0 .1, refl, refl)
+
+step-requires : tie.Need-step-requires Inv-loop μ-loop
+step-requires c κs =
+    let at-loop = c .before .before in
+    let p = at-loop .before .before .pre in
+    let same = sym (at-loop .loop .inv .2) in
+    (subst (λ (m : List ℕ). length m ≡ stateSize) same (p .0 .0), (subst SoundMemory same (p .1 .0), p .1 .1))
+
+-- the next step is the first of the positions that are left, said of the memory in the loop
+so-far : (m₀ m : List ℕ) (start tried p : ℕ) → m ≡ m₀ → nextStep (view m₀) start ≡ firstOf (positionCount - tried) (view m₀) p
+    → nextStep (view m) start ≡ firstOf (positionCount - tried) (view m) p
+so-far m₀ m start tried p same e =
+    subst (λ (x : List ℕ). nextStep (view x) start ≡ firstOf (positionCount - tried) (view x) p) (sym same) e
+
+enum-told : tie.Need-enum-told Inv-loop μ-loop
+enum-told c = search needs
+
+same-length : tie.Need-same-length Inv-loop μ-loop
+same-length c = search needs
+
+returns : tie.Need-returns Inv-loop μ-loop
+returns c =
+    let at-step = c .before .before .before .before in
+    let at-test = at-step .before .before in
+    let l = at-test .before .loop in
+    let a = at-test .before .before .before .args in
+    subst
+    (λ (m : List ℕ). Promise (steppedBy (nextStep (view m) (a .position))) (memoryBy m (nextStep (view m) (a .position))) (At (l .p))
+    (at-step .step .last .0))
+    (l .inv .2)
+    (found-here (l .m) (a .position) (l .p) (l .tried) (omega (arith, at-test .loop-test .taken))
+    (so-far _ _ (a .position) (l .tried) (l .p) (l .inv .2) (l .inv .3)) (at-step .step .ensures) (c .enum-told .given .1))
+
+enum-told-2 : tie.Need-enum-told-2 Inv-loop μ-loop
+enum-told-2 c = search needs
+
+position-after-requires : tie.Need-position-after-requires Inv-loop μ-loop
+position-after-requires c κs = search needs
+
+add-tried : tie.Need-add-tried Inv-loop μ-loop
+add-tried c = search needs
+
+loop-less : tie.Need-loop-less Inv-loop μ-loop
+loop-less c = search needs
+
+loop-again : tie.Need-loop-again Inv-loop μ-loop
+loop-again c =
+    let at-told = c .before in
+    let at-step = at-told .before .before .before .before in
+    let at-test = at-step .before .before in
+    let l = at-test .before .loop in
+    let a = at-test .before .before .before .args in
+    let same = l .inv .2 in
+    let on = not-here (l .m) (a .position) (l .p) (l .tried) (omega (arith, at-test .loop-test .taken))
+    (so-far _ _ (a .position) (l .tried) (l .p) same (l .inv .3)) (at-step .step .ensures) _ (c .position-after .result)
+    (at-told .enum-told2 .given .1) (c .position-after .ensures) in
+    let count : positionCount - suc (l .tried) ≡ positionCount - (l .tried + 1) = omega arith in (
+      omega (arith, at-test .loop-test .taken),
+      rw (c .position-after .ensures) (next-in-range (l .p)),
+      on .unchanged ∙ same,
+      subst (λ (m : List ℕ). nextStep (view m) (a .position) ≡ firstOf (positionCount - (l .tried + 1)) (view m) (c .position-after .result)) same
+          (on .goes-on ∙ ap (λ (n : ℕ). firstOf n (view (l .m)) (c .position-after .result)) count),
+    )
+
+same-length-2 : tie.Need-same-length-2 Inv-loop μ-loop
+same-length-2 c = search needs
+
+returns-2 : tie.Need-returns-2 Inv-loop μ-loop
+returns-2 c =
+    let l = c .before .loop in
+    let a = c .before .before .before .args in
+    subst
+    (λ (m : List ℕ). Promise (steppedBy (nextStep (view m) (a .position))) (memoryBy m (nextStep (view m) (a .position))) Nowhere (l .m))
+    (l .inv .2)
+    (none-found (l .m) (a .position) (l .p) (l .tried) (omega (arith, c .loop-test .left))
+    (so-far _ _ (a .position) (l .tried) (l .p) (l .inv .2) (l .inv .3)))
+
+pub step-from-spec : {M : Type 1} → statement M
+step-from-spec =
+    tie.close
+    (tie.spec
+    Inv-loop
+    μ-loop
+    loop-holds
+    step-requires
+    enum-told
+    same-length
+    returns
+    enum-told-2
+    position-after-requires
+    add-tried
+    loop-less
+    loop-again
+    same-length-2
+    returns-2)
