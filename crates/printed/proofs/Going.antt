@@ -1,90 +1,96 @@
--- One step forward, over plain variables: a position that steps is the next step, one that does not is passed, and after as many as there
--- are nothing can step. Assumes nothing.
+-- One step forward, over plain variables: the search is the runner's, and what was read at the position that steps is what the step prints.
+-- Assumes nothing.
 use mathlib.Core.Path.{_≡_, refl, sym, ap, _∙_, subst}
 use mathlib.Core.Option.{Option, none, some}
 use mathlib.Core.List.{List}
-use Prim.Native.Nat.{ℕ, zero, suc, _+_, _-_, _≤_, _<_}
+use Prim.Native.Nat.{ℕ, suc, _+_, _-_, _≤_, _<_}
 use native.Mathlib.Omega.{arith}
 use Rattle.rules.specs.Limits.{positionCount}
 use Rattle.rules.specs.State.{State}
-use Rattle.rules.specs.Refusal.{Answer, refused, done}
-use Rattle.rules.specs.Ask.{ask}
 use Rattle.rules.specs.Run.{Step, nextPosition, firstOf, nextStep}
+use Rattle.rules.specs.Printed as rules
+use Rattle.rules.specs.Printed.{printedAt}
 use Rattle.rules.specs.Layout.{view}
-use Rattle.rules.specs.Calls.{layoutOr}
-use Rattle.rules.specs.Numbers.{replyTo}
 use Rattle.rules.specs.Promise.{Promise}
 use Rattle.rules.specs.declared.Reply.{Reply}
 use Rattle.rules.specs.declared.Reply.the-variants.{Done, Refused}
+use Rattle.keeping.proofs.RunLaws.{next-found}
 use Rattle.asking.specs.Stepped.{PositionStepped}
+use Rattle.runner.specs.declared.searching.Stepped as runner
+use Rattle.runner.specs.declared.searching.Stepped.the-variants as place
+use Rattle.runner.specs.Runs.{steppedBy, memoryBy}
+use Rattle.runner.proofs.Search.{Further, found-here, not-here, none-found}
 use Rattle.printed.specs.declared.kinds.Printed.{Printed}
 use Rattle.printed.specs.declared.forward.Forward.the-variants.{Nowhere, Stepped}
-use Rattle.printed.specs.Meaning.{PrintsAt}
-use Rattle.printed.specs.Forwarded.{Forwarded, stepPrinted, memoryBy}
-use Rattle.printed.proofs.Telling.{done-prints}
-
--- ---- the search
-
-first-here : (n : ℕ) (st : State) (p : ℕ) (st′ : State) → ask st p ≡ done st′
-    → firstOf (suc n) st p ≡ some (record { position = p; before = st; reached = st′ })
-unfolding firstOf
-first-here n st p st′ h = rw (h, firstOf) refl
-
-first-on : (n : ℕ) (st : State) (p k : ℕ) → ask st p ≡ refused k → firstOf (suc n) st p ≡ firstOf n st (nextPosition p)
-unfolding firstOf
-first-on n st p k h = rw (h, firstOf) refl
+use Rattle.printed.specs.Meaning.{PrintsAt, printedOf}
+use Rattle.printed.specs.Forwarded.{Forwarded, stepPrinted}
+use Rattle.printed.proofs.Telling.{done-prints, told-position}
 
 pub search-all : (st : State) (p : ℕ) → nextStep st p ≡ firstOf (positionCount - 0) st p
 unfolding nextStep
 search-all st p = refl
 
-pub next-below : (p : ℕ) {q : ℕ} → q ≡ nextPosition p → q < positionCount
-unfolding nextPosition
-next-below p e = omega (arith, e)
+-- 0 for nowhere
+abbrev isSomewhere : runner.Stepped → ℕ
+isSomewhere place.Nowhere = 0
+isSomewhere (place.At p) = 1
 
--- ---- a turn
+-- the position, 0 for nowhere
+abbrev positionOf : runner.Stepped → ℕ
+positionOf place.Nowhere = 0
+positionOf (place.At p) = p
 
--- 0 for done
-abbrev isDone : Reply → ℕ
-isDone Done = 0
-isDone (Refused n) = 1
+-- the search has come from `position` to p, with the memory as it was
+module _ (m₀ : List ℕ) (position : ℕ) (m : List ℕ) (p tried : ℕ) (left-to-try : tried < positionCount) (same : m ≡ m₀)
+    (so-far : nextStep (view m₀) position ≡ firstOf (positionCount - tried) (view m₀) p) {reply : Reply} {left : List ℕ}
+    (asked : PositionStepped m p reply left) where
+  asked₀ : PositionStepped m₀ p reply left
+  asked₀ = subst (λ (x : List ℕ). PositionStepped x p reply left) same asked
 
--- the search has come from `position` to p, with n positions to try
-module _ (m₀ : List ℕ) (position : ℕ) (m : List ℕ) (p n : ℕ) {reply : Reply} {left : List ℕ} where
-  -- p steps: it is the step that is made
-  pub turn-done : (shown : Printed) → m ≡ m₀ → nextStep (view m₀) position ≡ firstOf (suc n) (view m₀) p
-      → PrintsAt (view m) p shown → PositionStepped m p reply left → reply ≡ Done
+  -- p steps: it is the step that is made, and what was read there is what it prints
+  pub turn-done : (shown : Printed) → PrintsAt (view m) p shown → reply ≡ Done
       → Forwarded m₀ (nextStep (view m₀) position) (Stepped shown) left
-  turn-done shown same at prints made is =
-      let made₀ = subst (λ (x : List ℕ). PositionStepped x p reply left) same made in
-      let prints₀ = subst (λ (x : List ℕ). PrintsAt (view x) p shown) same prints in
-      go (ask (view m₀) p) refl (sym is ∙ made₀ .answer-is) (made₀ .memory-is) prints₀
+  turn-done shown prints is =
+      go (nextStep (view m₀) position) refl (found-here m₀ position p tried left-to-try so-far asked₀ is)
+      (subst (λ (x : List ℕ). PrintsAt (view x) p shown) same prints)
     where
-      go : (a : Answer State) → ask (view m₀) p ≡ a → Done ≡ replyTo a → left ≡ layoutOr m₀ (ask (view m₀) p) → PrintsAt (view m₀) p shown
-          → Forwarded m₀ (nextStep (view m₀) position) (Stepped shown) left
-      go (refused k) q d l f = absurd (omega (arith, ap isDone d))
-      go (done st′) q d l f =
-          let next = at ∙ first-here n (view m₀) p st′ q in
-          let told = done-prints (view m₀) p st′ q in
+      go : (x : Option Step) → nextStep (view m₀) position ≡ x
+          → Promise (steppedBy (nextStep (view m₀) position)) (memoryBy m₀ (nextStep (view m₀) position)) (place.At p) left
+          → PrintsAt (view m₀) p shown → Forwarded m₀ (nextStep (view m₀) position) (Stepped shown) left
+      go none q found read = absurd (omega (arith, ap isSomewhere (found .answer-is ∙ ap steppedBy q)))
+      go (some s) q found read =
+          let first = next-found (view m₀) position s q in
+          let here : p ≡ s .position = ap positionOf (found .answer-is ∙ ap steppedBy q) in
+          let told = done-prints (view m₀) (s .position) (s .reached) (first .is-step) in
+          let there = subst (λ (k : ℕ). printedAt (view m₀) k ≡ some (told .what)) (sym here) (told .prints) in
+          let what : printedOf shown ≡ told .what = read (told .what) there in
+          let at : p ≡ shown .position = sym (ap (λ (x : rules.Printed). x .position) what ∙ told-position (view m₀) p (told .what) there) in
           record {
-            prints = ap some (f (told .what) (told .prints)) ∙ sym (told .prints) ∙ ap stepPrinted (sym next);
-            left-is = l ∙ ap (layoutOr m₀) q ∙ ap (memoryBy m₀) (sym next);
+            made = subst (λ (k : ℕ). Promise (steppedBy (nextStep (view m₀) position)) (memoryBy m₀ (nextStep (view m₀) position)) (place.At k) left) at found;
+            prints = ap some what ∙ sym (told .prints) ∙ ap (λ (st : State). printedAt st (s .position)) (sym (first .before-is))
+                ∙ ap stepPrinted (sym q);
           }
 
   -- p does not step: the memory is as it was, and the search goes on
-  pub turn-on : m ≡ m₀ → nextStep (view m₀) position ≡ firstOf (suc n) (view m₀) p → PositionStepped m p reply left
-      → {k : ℕ} → reply ≡ Refused k → (left ≡ m₀) × (nextStep (view m₀) position ≡ firstOf n (view m₀) (nextPosition p))
-  turn-on same at made {k} is =
-      let made₀ = subst (λ (x : List ℕ). PositionStepped x p reply left) same made in
-      go (ask (view m₀) p) refl (sym is ∙ made₀ .answer-is) (made₀ .memory-is)
-    where
-      go : (a : Answer State) → ask (view m₀) p ≡ a → Refused k ≡ replyTo a → left ≡ layoutOr m₀ (ask (view m₀) p)
-          → (left ≡ m₀) × (nextStep (view m₀) position ≡ firstOf n (view m₀) (nextPosition p))
-      go (refused j) q d l = (l ∙ ap (layoutOr m₀) q, at ∙ first-on n (view m₀) p j q)
-      go (done st′) q d l = absurd (omega (arith, ap isDone d))
+  pub turn-on : (n next : ℕ) → reply ≡ Refused n → next ≡ nextPosition p
+      → (left ≡ m₀) × (nextStep (view m₀) position ≡ firstOf (positionCount - (tried + 1)) (view m₀) next)
+  turn-on n next is e =
+      let further = not-here m₀ position p tried left-to-try so-far asked₀ n next is e in
+      let one-less : positionCount - suc tried ≡ positionCount - (tried + 1) = omega arith in
+      (further .unchanged, further .goes-on ∙ ap (λ (k : ℕ). firstOf k (view m₀) next) one-less)
 
--- nothing is left to try
-pub none-steps : (m₀ : List ℕ) (position p : ℕ) {m : List ℕ} → m ≡ m₀ → nextStep (view m₀) position ≡ firstOf 0 (view m₀) p
+-- every position was tried
+pub none-steps : (m₀ : List ℕ) (position p tried : ℕ) {m : List ℕ} → positionCount ≤ tried → m ≡ m₀
+    → nextStep (view m₀) position ≡ firstOf (positionCount - tried) (view m₀) p
     → Forwarded m₀ (nextStep (view m₀) position) Nowhere m
-unfolding firstOf
-none-steps m₀ position p same at = record { prints = ap stepPrinted (sym at); left-is = same ∙ ap (memoryBy m₀) (sym at) }
+none-steps m₀ position p tried {m} h same so-far =
+    go (nextStep (view m₀) position) refl (none-found m₀ position p tried h so-far)
+  where
+    go : (x : Option Step) → nextStep (view m₀) position ≡ x
+        → Promise (steppedBy (nextStep (view m₀) position)) (memoryBy m₀ (nextStep (view m₀) position)) place.Nowhere m₀
+        → Forwarded m₀ (nextStep (view m₀) position) Nowhere m
+    go none q found = record {
+      made = record { answer-is = found .answer-is; memory-is = same ∙ found .memory-is };
+      prints = ap stepPrinted (sym q);
+    }
+    go (some s) q found = absurd (omega (arith, ap isSomewhere (found .answer-is ∙ ap steppedBy q)))

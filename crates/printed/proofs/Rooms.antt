@@ -8,9 +8,11 @@ use borrow.Author.Tests.{lt-ltb, le-ltb}
 use lib.ListN.{length, length-append}
 use Rattle.rules.specs.Limits.{recordCount}
 use Rattle.rules.specs.Text.{text, decimal}
-use Rattle.rules.specs.Printed.{Printed, positionText, kindText, lineText}
+use Rattle.rules.specs.Printed.{Printed, positionText, kindText, lineText, verdictText, lastText}
 use Rattle.words.proofs.Parts.{length-put}
 use Rattle.text.specs.Written.{Written}
+use Rattle.runner.specs.declared.verdict.Verdict.{Verdict}
+use Rattle.printed.specs.Meaning.{verdictIn, lastLine}
 
 -- ---- room
 
@@ -53,6 +55,19 @@ fromPosition x = positionText (x .position) ++ ((32 ∷ []) ++ fromKind x)
 pub line-text : (number : ℕ) (x : Printed) → decimal number ++ ((32 ∷ []) ++ fromPosition x) ≡ lineText number (some x)
 unfolding lineText text
 line-text number x = six (decimal number) (32 ∷ []) (positionText (x .position)) (32 ∷ []) (kindText (x .kind) (x .number)) (10 ∷ [])
+
+-- ---- the last line
+
+-- what stands behind its parts, from the last one
+abbrev pub fromNext : (next : ℕ) → List ℕ
+fromNext next = decimal next ++ 10 ∷ []
+
+abbrev pub fromSteps : (made next : ℕ) → List ℕ
+fromSteps made next = decimal made ++ ((32 ∷ []) ++ fromNext next)
+
+pub last-text : (v : Verdict) (made next : ℕ) → verdictText (verdictIn v) ++ ((32 ∷ []) ++ fromSteps made next) ≡ lastLine v made next
+unfolding lastLine lastText text
+last-text v made next = six (verdictText (verdictIn v)) (32 ∷ []) (decimal made) (32 ∷ []) (decimal next) (10 ∷ [])
 
 -- ---- the line of a refused image
 

@@ -150,6 +150,32 @@ pub decoded-name : (p : ℕ) (i : Instruction) (next : ℕ) (z : Printed) {name 
     → printedDecoded p (some (record { instruction = i; next = next })) ≡ some z → printed p (instruction-kind name) (pos 0) ≡ z
 decoded-name p i next z e h = ap (λ (n : Name). printed p (instruction-kind n) (pos 0)) e ∙ same h
 
+-- the position that is printed is the one asked
+pub told-position : (st : State) (p : ℕ) (z : Printed) → printedAt st p ≡ some z → z .position ≡ p
+unfolding printedAt
+told-position st p z h = go (ltb p recordCount) h
+  where
+    decoded : (d : Option Decoded) → printedDecoded p d ≡ some z → z .position ≡ p
+    decoded none k = differ k
+    decoded (some d) k = ap (λ (x : Printed). x .position) (sym (same k))
+
+    of-record : (y : RecordState) → printedRecord (st .code) p y ≡ some z → z .position ≡ p
+    of-record free-record k = differ k
+    of-record (waiting g) k = differ k
+    of-record (running g) k = decoded (decode (st .code) (g .place)) k
+
+    of-end : (v : Meeting) → printedMeeting p v ≡ some z → z .position ≡ p
+    of-end mismatch k = differ k
+    of-end (delivers from to r (value v) g) k = ap (λ (x : Printed). x .position) (sym (same k))
+    of-end (delivers from to r (handle n) g) k = ap (λ (x : Printed). x .position) (sym (same k))
+    of-end (divides r g g′) k = ap (λ (x : Printed). x .position) (sym (same k))
+    of-end closes k = ap (λ (x : Printed). x .position) (sym (same k))
+
+    go : (b : Bool) → pickPrinted b (printedRecord (st .code) p (recordAt st p)) (printedMeeting p (meeting st (p - recordCount))) ≡ some z
+        → z .position ≡ p
+    go true k = of-record (recordAt st p) k
+    go false k = of-end (meeting st (p - recordCount)) k
+
 -- ---- a step that is done
 
 -- it prints something

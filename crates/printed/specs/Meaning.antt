@@ -1,13 +1,17 @@
 -- What the answers of the code stand for: a name, a kind and what is printed, of `rules`, Printed. Assumes nothing.
 use mathlib.Core.Path.{_≡_}
 use mathlib.Core.Option.{some}
+use mathlib.Core.List.{List, []}
 use Prim.Native.Nat.{ℕ}
 use lib.IntN.{pos}
 use Rattle.rules.specs.State as states
-use Rattle.rules.specs.State.{State}
+use Rattle.rules.specs.State.{State, start}
 use Rattle.rules.specs.Instruction as instructions
 use Rattle.rules.specs.Printed as rules
-use Rattle.rules.specs.Printed.{printed, printedAt}
+use Rattle.rules.specs.Run as run
+use Rattle.rules.specs.Printed.{printed, printedAt, lastText}
+use Rattle.runner.specs.declared.verdict.Verdict.{Verdict}
+use Rattle.runner.specs.declared.verdict.Verdict.the-variants.{Spent, Finished, Stuck}
 use Rattle.printed.specs.declared.kinds.Name.{Name}
 use Rattle.printed.specs.declared.kinds.Name.the-variants.{Cst, Access, Store, Add, Mul, Leq, Put, Get, Split, Fork}
 use Rattle.printed.specs.declared.kinds.Name.the-variants.{Plug, Close, Halt, Same, Hput, Hcase, Run}
@@ -58,3 +62,13 @@ itemPrinted p (states.datum (states.handle n)) = printed p rules.handle-kind (po
 itemPrinted p (states.last (states.split-item x y)) = printed p rules.split-kind (pos 0)
 itemPrinted p (states.last states.close-item) = printed p rules.close-kind (pos 0)
 itemPrinted p (states.last (states.wait-item r)) = printed p rules.close-kind (pos 0)
+
+-- the verdict that a verdict of the runner's code stands for
+abbrev pub verdictIn : Verdict → run.Verdict
+verdictIn Spent = run.spent
+verdictIn Finished = run.finished
+verdictIn Stuck = run.stuck
+
+-- the last line for a verdict, the steps made and the next position; it does not speak of the state reached
+unfoldable pub lastLine : Verdict → (made next : ℕ) → List ℕ
+lastLine v made next = lastText (record { reached = start []; made = made; next = next; verdict = verdictIn v })

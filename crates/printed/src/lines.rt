@@ -5,13 +5,14 @@ ghost use mathlib.Core.Option.{some};
 ghost use Prim.Native.Nat.{_+_, _≤_};
 ghost use lib.ListN.{length};
 ghost use Rattle.rules.specs.Text.{text as textOf, decimal, signedDecimal};
-ghost use Rattle.rules.specs.Printed.{nameText, kindText, positionText, lineText};
+ghost use Rattle.rules.specs.Printed.{nameText, kindText, positionText, lineText, verdictText};
 ghost use Rattle.text.specs.Written.{Written};
-ghost use Rattle.printed.specs.Meaning.{nameIn, kindIn, printedOf};
+ghost use Rattle.printed.specs.Meaning.{nameIn, kindIn, printedOf, verdictIn, lastLine};
 use crate::kinds::Kind;
 use crate::kinds::Name;
 use crate::kinds::Printed;
 use rules::RECORD_COUNT;
+use runner::Verdict;
 use text::put_bytes;
 use text::put_decimal;
 use text::put_signed;
@@ -99,5 +100,29 @@ pub fn put_refused(out: &mut [u8], at: usize, n: u8) -> usize
 {
     let number = put_bytes(out, at, b"refused ");
     let end = put_decimal(out, number, n as u64);
+    put_bytes(out, end, b"\n")
+}
+
+fn put_verdict(out: &mut [u8], at: usize, verdict: Verdict) -> usize
+    requires { ⌜ at + length (verdictText (verdictIn verdict)) ≤ length (now out) ⌝ }
+    ensures { λ r. ⌜ Written (now (out .entry)) at (verdictText (verdictIn verdict)) (now (out .exit)) r ⌝ }
+{
+    match verdict {
+        Verdict::Spent => put_bytes(out, at, b"spent"),
+        Verdict::Finished => put_bytes(out, at, b"finished"),
+        Verdict::Stuck => put_bytes(out, at, b"stuck"),
+    }
+}
+
+// The last line: verdict, steps, next position.
+pub fn put_last(out: &mut [u8], at: usize, verdict: Verdict, made: u16, next: u32) -> usize
+    requires { ⌜ at + length (lastLine verdict made next) ≤ length (now out) ⌝ }
+    ensures { λ r. ⌜ Written (now (out .entry)) at (lastLine verdict made next) (now (out .exit)) r ⌝ }
+{
+    let space = put_verdict(out, at, verdict);
+    let steps = put_bytes(out, space, b" ");
+    let behind = put_decimal(out, steps, made as u64);
+    let position = put_bytes(out, behind, b" ");
+    let end = put_decimal(out, position, next as u64);
     put_bytes(out, end, b"\n")
 }

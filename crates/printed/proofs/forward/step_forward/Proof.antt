@@ -1,6 +1,6 @@
 -- The search comes to each position with the memory as it was. Assumes nothing.
 use mathlib.Core.Path.{_≡_, refl, sym, ap, _∙_, subst}
-use Prim.Native.Nat.{ℕ, suc, _+_, _-_, _≤_, _<_}
+use Prim.Native.Nat.{_-_, _≤_, _<_}
 use native.Mathlib.Omega.{arith}
 use lib.ListN.{length}
 use borrow.Author.Needs.{needs}
@@ -8,7 +8,8 @@ use Rattle.rules.specs.Limits.{positionCount}
 use Rattle.rules.specs.Run.{firstOf, nextStep}
 use Rattle.rules.specs.Layout.{view}
 use Rattle.keeping.specs.Demand3.{SoundMemory}
-use Rattle.printed.proofs.Going.{search-all, next-below, turn-done, turn-on, none-steps}
+use Rattle.runner.proofs.Search.{next-in-range}
+use Rattle.printed.proofs.Going.{search-all, turn-done, turn-on, none-steps}
 use Rattle.printed.proofs.forward.step_forward.Statement.{statement}
 use Rattle.printed.proofs.forward.step_forward.Tie as tie
 
@@ -19,10 +20,6 @@ Inv-loop m₀ lengths position p₀ tried₀ m p tried =
 
 abbrev μ-loop : tie.MeasureT-loop
 μ-loop m₀ lengths position p₀ tried₀ m p tried = positionCount - tried
-
--- one position fewer is left to try
-one-less : (tried : ℕ) → tried < positionCount → positionCount - tried ≡ suc (positionCount - (tried + 1))
-one-less tried h = omega arith
 
 loop-holds : tie.Need-loop-holds Inv-loop μ-loop
 loop-holds c = (omega arith, c .before .pre .0 .1, refl, search-all (view (c .before .args .m .now)) (c .before .args .position))
@@ -56,10 +53,8 @@ returns c =
     let at-loop = at-test .before in
     let a = at-loop .before .before .args in
     let l = at-loop .loop in
-    let n = positionCount - (l .tried + 1) in
-    let at = l .inv .3 ∙ ap (λ (k : ℕ). firstOf k (view (a .m .now)) (l .p)) (one-less (l .tried) (at-test .loop-test .taken)) in
-    turn-done (a .m .now) (a .position) (l .m) (l .p) n (at-printed .printed-at .result) (l .inv .2) at (at-printed .printed-at .ensures)
-    (at-step .step .ensures) (c .enum-told .given .1)
+    turn-done (a .m .now) (a .position) (l .m) (l .p) (l .tried) (at-test .loop-test .taken) (l .inv .2) (l .inv .3) (at-step .step .ensures)
+    (at-printed .printed-at .result) (at-printed .printed-at .ensures) (c .enum-told .given .1)
 
 enum-told-2 : tie.Need-enum-told-2 Inv-loop μ-loop
 enum-told-2 c = search needs
@@ -81,15 +76,10 @@ loop-again c =
     let at-loop = at-test .before in
     let a = at-loop .before .before .args in
     let l = at-loop .loop in
-    let n = positionCount - (l .tried + 1) in
-    let at = l .inv .3 ∙ ap (λ (k : ℕ). firstOf k (view (a .m .now)) (l .p)) (one-less (l .tried) (at-test .loop-test .taken)) in
-    let on = turn-on (a .m .now) (a .position) (l .m) (l .p) n (l .inv .2) at (at-step .step .ensures) (at-told .enum-told2 .given .1) in
-    let next = c .position-after .ensures in (
-      omega (arith, at-test .loop-test .taken),
-      next-below (l .p) next,
-      on .0,
-      on .1 ∙ ap (λ (q : ℕ). firstOf n (view (a .m .now)) q) (sym next),
-    )
+    let next = c .position-after .ensures in
+    let on = turn-on (a .m .now) (a .position) (l .m) (l .p) (l .tried) (at-test .loop-test .taken) (l .inv .2) (l .inv .3) (at-step .step .ensures)
+    _ (c .position-after .result) (at-told .enum-told2 .given .1) next in
+    (omega (arith, at-test .loop-test .taken), rw next (next-in-range (l .p)), on .0, on .1)
 
 same-length-2 : tie.Need-same-length-2 Inv-loop μ-loop
 same-length-2 c = search needs
@@ -99,9 +89,7 @@ returns-2 c =
     let at-loop = c .before in
     let a = at-loop .before .before .args in
     let l = at-loop .loop in
-    let none-left : positionCount - l .tried ≡ 0 = omega (arith, c .loop-test .left) in
-    none-steps (a .m .now) (a .position) (l .p) (l .inv .2)
-    (l .inv .3 ∙ ap (λ (k : ℕ). firstOf k (view (a .m .now)) (l .p)) none-left)
+    none-steps (a .m .now) (a .position) (l .p) (l .tried) (c .loop-test .left) (l .inv .2) (l .inv .3)
 
 pub step-forward-spec : {M : Type 1} → statement M
 step-forward-spec =
