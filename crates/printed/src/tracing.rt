@@ -58,8 +58,9 @@ fn put_steps(m: &mut [u8], lengths: &[u8; 256], out: &mut [u8]) -> Lines
 // The lines of a run, and the last one.
 fn put_run(m: &mut [u8], out: &mut [u8]) -> usize
     requires { ⌜ SoundMemory (now m) × (traceLimit ≤ length (now out)) ⌝ }
-    ensures { λ r. ⌜ Written (now (out .entry)) 0 (runText (view (now (m .entry))) (steps traceBudget (view (now (m .entry))) 0))
+    ensures is { λ r. ⌜ Written (now (out .entry)) 0 (runText (view (now (m .entry))) (steps traceBudget (view (now (m .entry))) 0))
         (now (out .exit)) r ⌝ }
+    ensures within { λ r. ⌜ r ≤ traceLimit ⌝ }
 {
     let lengths = code::length_table();
     let lines = put_steps(m, &lengths, out);
@@ -70,7 +71,8 @@ fn put_run(m: &mut [u8], out: &mut [u8]) -> usize
 // The whole text for an image, and where it ends.
 pub fn trace(image: &[u8], out: &mut [u8]) -> usize
     requires { ⌜ traceLimit ≤ length (now out) ⌝ }
-    ensures { λ r. ⌜ Written (now (out .entry)) 0 (traceText (now (image .entry))) (now (out .exit)) r ⌝ }
+    ensures is { λ r. ⌜ Written (now (out .entry)) 0 (traceText (now (image .entry))) (now (out .exit)) r ⌝ }
+    ensures within { λ r. ⌜ r ≤ traceLimit ⌝ }
 {
     let mut state = [0; STATE_SIZE];
     match machine::load(&mut state, image) {

@@ -68,7 +68,10 @@ returns c =
     let at-n = at-put .before .before .before in
     let at-load = at-n .before .before .before in
     let at-start = at-load .before .before .before .before in
-    written-as (refused-image _ (at-start .args .image .now) refl (at-load .load .ensures) _ (at-n .n .given .1)) (at-put .put-refused .ensures)
+    let short = refused-short (at-n .n .given .0 .0) (number-small (at-put .before .before)) in (
+      written-as (refused-image _ (at-start .args .image .now) refl (at-load .load .ensures) _ (at-n .n .given .1)) (at-put .put-refused .ensures),
+      omega (arith, at-put .put-refused .ensures .place, short),
+    )
 
 same-length-2 : tie.Need-same-length-2
 same-length-2 c = search needs
@@ -76,7 +79,7 @@ same-length-2 c = search needs
 returns-2 : tie.Need-returns-2
 returns-2 c =
     let at-put = c .before .before .before in
-    written-as (loaded (at-put .before .before .before) .1) (at-put .put-run .ensures)
+    (written-as (loaded (at-put .before .before .before) .1) (at-put .put-run .ensures .0), at-put .put-run .ensures .1)
 
 pub trace-spec : {M : Type 1} → statement M
 trace-spec =
