@@ -1,0 +1,6 @@
+pub mod Telling
+pub mod Going
+pub mod Rooms
+pub mod Lengths
+pub mod RunLines
+pub mod Whole
