@@ -2,7 +2,7 @@
 -- not worth asking. Assumes nothing.
 use mathlib.Core.Path.{_≡_, refl, sym, ap, _∙_}
 use mathlib.Core.Bool.{Bool, true, false}
-use mathlib.Core.Option.{none, some}
+use mathlib.Core.Option.{Option, none, some}
 use mathlib.Core.List.{List, [], _∷_}
 use Prim.Native.Nat.{ℕ, suc, _-_, _<_, _≤_}
 use native.Mathlib.Omega.{arith}
@@ -12,7 +12,7 @@ use Rattle.rules.specs.Limits.{recordCount, endCount, positionCount}
 use Rattle.rules.specs.State.{State, EndState, free-end, used, recordAt, endAt, queueLength, headOf, isFreeEnd}
 use Rattle.rules.specs.Refusal.{Answer, refused, done, isDone}
 use Rattle.rules.specs.Ask.{askEnd, ask}
-use Rattle.rules.specs.Run.{nextPosition, firstOf, nextStep}
+use Rattle.rules.specs.Run.{Step, nextPosition, firstOf, nextStep}
 use Rattle.rules.specs.Layout.{view}
 use Rattle.rules.specs.Calls.{layoutOr}
 use Rattle.rules.specs.Numbers.{replyTo}
@@ -96,30 +96,32 @@ isTrue true = 1
 isTrue false = 0
 
 module _ (st : State) (p n : ℕ) where
+  -- what p's answer makes of the search
+  abbrev decides : Answer State → Option Step
+  decides a = elim a [ refused k ↦ firstOf n st (nextPosition p) | done x ↦ some (record { position = p; before = st; reached = x }) ]
+
   here : (st′ : State) → ask st p ≡ done st′ → firstOf (suc n) st p ≡ some (record { position = p; before = st; reached = st′ })
   unfolding firstOf
-  here st′ e =
-      ap
-      (λ (a : Answer State). elim a [ refused k ↦ firstOf n st (nextPosition p) | done x ↦ some (record { position = p; before = st; reached = x }) ])
-      e
+  here st′ e = ap decides e
 
   further : (k : ℕ) → ask st p ≡ refused k → firstOf (suc n) st p ≡ firstOf n st (nextPosition p)
   unfolding firstOf
-  further k e =
-      ap
-      (λ (a : Answer State). elim a [ refused j ↦ firstOf n st (nextPosition p) | done x ↦ some (record { position = p; before = st; reached = x }) ])
-      e
+  further k e = ap decides e
 
 -- whether a position that is tried steps, and the memory then, with `count` positions tried before it
-module _ (m : List ℕ) (start p count : ℕ) (left : count < positionCount) (so-far : nextStep (view m) start ≡ firstOf (positionCount - count) (view m) p)
+module _ (m : List ℕ) (start p count : ℕ) (left : count < positionCount)
+    (so-far : nextStep (view m) start ≡ firstOf (positionCount - count) (view m) p)
     {steps : Bool} {after : List ℕ} (q : Promise (isDone (ask (view m) p)) (layoutOr m (ask (view m) p)) steps after) where
   one-more : firstOf (positionCount - count) (view m) p ≡ firstOf (suc (positionCount - suc count)) (view m) p
   one-more = ap (λ (n : ℕ). firstOf n (view m) p) (omega (arith, left))
 
-  pub found-here : steps ≡ true → Promise (steppedBy (nextStep (view m) start)) (memoryBy m (nextStep (view m) start)) (At p) after
+  abbrev pub Found : Type 0
+  Found = Promise (steppedBy (nextStep (view m) start)) (memoryBy m (nextStep (view m) start)) (At p) after
+
+  pub found-here : steps ≡ true → Found
   found-here is = go (ask (view m) p) refl
     where
-      go : (a : Answer State) → ask (view m) p ≡ a → Promise (steppedBy (nextStep (view m) start)) (memoryBy m (nextStep (view m) start)) (At p) after
+      go : (a : Answer State) → ask (view m) p ≡ a → Found
       go (refused k) e = absurd (omega (arith, ap isTrue (sym is ∙ q .answer-is ∙ ap isDone e)))
       go (done st′) e =
           rw (so-far ∙ one-more ∙ here (view m) p (positionCount - suc count) st′ e)

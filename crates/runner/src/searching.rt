@@ -57,8 +57,8 @@ fn may_step(m: &[u8], position: u32) -> bool
 fn tried(m: &mut [u8], lengths: &[u8; 256], position: u32) -> bool
     requires { ⌜ (length (now m) ≡ stateSize) × (position < positionCount) ⌝ }
     requires { ⌜ SoundMemory (now m) × (now lengths ≡ lengthsOfRules) ⌝ }
-    ensures { λ r. ⌜ Promise (isDone (ask (view (now (m .entry))) position)) (layoutOr (now (m .entry)) (ask (view (now (m .entry))) position))
-        r (now (m .exit)) ⌝ }
+    ensures { λ r. ⌜ Promise (isDone (ask (view (now (m .entry))) position))
+        (layoutOr (now (m .entry)) (ask (view (now (m .entry))) position)) r (now (m .exit)) ⌝ }
 {
     if !may_step(m, position) {
         return false;

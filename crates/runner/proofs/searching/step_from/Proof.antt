@@ -1,5 +1,5 @@
--- The positions are tried one after the other. The invariant: the memory is as it was, and the next step is the first of the positions that are
--- left. Assumes nothing.
+-- The positions are tried one after the other. The invariant: the memory is as it was, and the next step is the first of the positions that
+-- are left. Assumes nothing.
 use mathlib.Core.Path.{_≡_, refl, sym, ap, _∙_, subst}
 use mathlib.Core.List.{List}
 use Prim.Native.Nat.{ℕ, suc, _+_, _-_, _≤_, _<_}
@@ -74,15 +74,16 @@ loop-again c =
     let l = at-test .before .loop in
     let a = at-test .before .before .before .args in
     let same = l .inv .2 in
+    let next = c .position-after .result in
     let on = not-here (l .m) (a .position) (l .p) (l .count) (omega (arith, at-test .loop-test .taken))
-    (so-far _ _ (a .position) (l .count) (l .p) same (l .inv .3)) (at-tried .tried .ensures) (c .position-after .result)
+    (so-far _ _ (a .position) (l .count) (l .p) same (l .inv .3)) (at-tried .tried .ensures) next
     (at-if .if1 .left) (c .position-after .ensures) in
     let one-less : positionCount - suc (l .count) ≡ positionCount - (l .count + 1) = omega arith in (
       omega (arith, at-test .loop-test .taken),
       rw (c .position-after .ensures) (next-in-range (l .p)),
       on .unchanged ∙ same,
-      subst (λ (m : List ℕ). nextStep (view m) (a .position) ≡ firstOf (positionCount - (l .count + 1)) (view m) (c .position-after .result)) same
-          (on .goes-on ∙ ap (λ (n : ℕ). firstOf n (view (l .m)) (c .position-after .result)) one-less),
+      subst (λ (m : List ℕ). nextStep (view m) (a .position) ≡ firstOf (positionCount - (l .count + 1)) (view m) next) same
+          (on .goes-on ∙ ap (λ (n : ℕ). firstOf n (view (l .m)) next) one-less),
     )
 
 same-length-2 : tie.Need-same-length-2 Inv-loop μ-loop
