@@ -1,8 +1,8 @@
 -- How long a line of the printing program can be: a number below a power of ten has so many digits. Assumes nothing.
-use mathlib.Core.Path.{_≡_, refl, sym, ap, _∙_}
+use mathlib.Core.Path.{ap}
 use mathlib.Core.List.{List, [], _∷_, _++_}
 use mathlib.Core.Option.{some}
-use Prim.Native.Nat.{ℕ, zero, suc, _+_, _-_, _*_, _/_, _%_, _^_, _≤_, _<_}
+use Prim.Native.Nat.{ℕ, zero, suc, _+_, _-_, _/_, _%_, _^_, _≤_, _<_}
 use native.Mathlib.Decide.{decLt}
 use native.Mathlib.Omega.{arith}
 use lib.ListN.{length, length-append}
@@ -20,7 +20,8 @@ use Rattle.runner.specs.declared.verdict.Verdict.{Verdict}
 use Rattle.runner.specs.declared.verdict.Verdict.the-variants.{Spent, Finished, Stuck}
 use Rattle.printed.specs.Meaning.{verdictIn, lastLine}
 use Rattle.printed.specs.Traced.{lineLimit, lastLimit}
-use Rattle.printed.proofs.Rooms.{record-text, end-text, fromPosition, fromKind, line-text, fromSteps, fromNext, last-text, refusedWord, refused-text}
+use Rattle.printed.proofs.Rooms.{record-text, end-text, fromPosition, fromKind, line-text}
+use Rattle.printed.proofs.Rooms.{fromSteps, fromNext, last-text, refusedWord, refused-text}
 
 -- ---- numbers
 
@@ -125,4 +126,5 @@ last-short v made next n p =
 
 pub refused-short : (n : ℕ) → n < 1000 → length (text "refused " ++ decimal n ++ text "\n") ≤ lastLimit
 refused-short n h =
-    omega (arith, ap length (refused-text n), length-append refusedWord (decimal n ++ 10 ∷ []), length-append (decimal n) (10 ∷ []), decimal-short 2 n h)
+    let parts = length-append refusedWord (decimal n ++ 10 ∷ []) in
+    omega (arith, ap length (refused-text n), parts, length-append (decimal n) (10 ∷ []), decimal-short 2 n h)

@@ -1,9 +1,9 @@
 -- The lines of a run, one step after the other: those of the steps made so far stand in the buffer, and the next one is put behind them.
 -- Assumes nothing.
-use mathlib.Core.Path.{_≡_, refl, sym, ap, _∙_, subst}
+use mathlib.Core.Path.{_≡_, refl, sym, ap, _∙_}
 use mathlib.Core.Option.{Option, none, some}
 use mathlib.Core.List.{List, [], _∷_, _++_, append-assoc, append-nil}
-use Prim.Native.Nat.{ℕ, zero, suc, _+_, _-_, _*_, _≤_, _<_}
+use Prim.Native.Nat.{ℕ, suc, _+_, _-_, _*_, _≤_, _<_}
 use native.Mathlib.Nat.{add-zero}
 use native.Mathlib.Omega.{arith}
 use lib.ListN.{length}
@@ -11,11 +11,10 @@ use mir.Syntax.{w32}
 use mir.Val.{SFits}
 use Rattle.rules.specs.Limits.{positionCount}
 use Rattle.rules.specs.State.{State}
-use Rattle.rules.specs.Run.{Step, nextPosition, nextStep, steps, reachedBy, positionAfter}
+use Rattle.rules.specs.Run.{Step, nextPosition, nextStep, steps, positionAfter}
 use Rattle.rules.specs.Printed as rules
 use Rattle.rules.specs.Printed.{printedAt, lineText, linesText, traceBudget}
 use Rattle.rules.specs.Layout.{view}
-use Rattle.words.specs.Parts.{putAt}
 use Rattle.keeping.specs.Demand3.{SoundMemory}
 use Rattle.keeping.proofs.StepLaws.{steps-add, steps-stop, steps-one}
 use Rattle.text.specs.Written.{Written}
@@ -78,8 +77,8 @@ module _ (st : State) (out₀ : List ℕ) (end made next : ℕ) (m out : List �
       ∙ ap (λ (p : ℕ). steps made st 0 ++ steps j (view m) p) (sym (f .next-is))
 
   -- nothing can step: these are all lines
-  pub lines-end : {answer : Forward} {left : List ℕ} → made ≤ traceBudget → Forwarded m (nextStep (view m) next) answer left → answer ≡ Nowhere
-      → Traced st (steps traceBudget st 0) out₀ end made next left out
+  pub lines-end : {answer : Forward} {left : List ℕ} → made ≤ traceBudget → Forwarded m (nextStep (view m) next) answer left
+      → answer ≡ Nowhere → Traced st (steps traceBudget st 0) out₀ end made next left out
   lines-end {answer} {left} h f is =
       let nothing = none-is (nextStep (view m) next) refl (ap steppedIn (sym is) ∙ f .made .answer-is) in
       let whole : made + (traceBudget - made) ≡ traceBudget = omega (arith, h) in
@@ -110,7 +109,8 @@ module _ (st : State) (out₀ : List ℕ) (end made next : ℕ) (m out : List �
       }
 
   -- a step was made, and prints x
-  module _ {answer : Forward} {left : List ℕ} (f : Forwarded m (nextStep (view m) next) answer left) (x : Printed) (is : answer ≡ Stepped x) where
+  module _ {answer : Forward} {left : List ℕ} (f : Forwarded m (nextStep (view m) next) answer left) (x : Printed)
+      (is : answer ≡ Stepped x) where
     pub position-below : x .position < positionCount
     position-below =
         position-in-range st 0 made next m (lines .so-far) (x .position) (f .made .answer-is) (f .made .memory-is) (ap steppedIn is)
@@ -141,7 +141,8 @@ module _ (st : State) (out₀ : List ℕ) (end made next : ℕ) (m out : List �
             ∙ ap (λ (o : Option rules.Printed). linesText 1 (steps made st 0) ++ lineText (made + 1) o) (sym told)) in
             let short = line-short (made + 1) (printedOf x) (omega (arith, h)) position-below fits in
             record {
-              so-far = one-more st 0 made next m (lines .so-far) (x .position) (f .made .answer-is) (f .made .memory-is) (ap steppedIn is) next′ e;
+              so-far = one-more st 0 made next m (lines .so-far) (x .position) (f .made .answer-is) (f .made .memory-is)
+                  (ap steppedIn is) next′ e;
               written = written-as line (written-more (lines .written) w);
               within = omega (arith, w .place, short, lines .within);
             }

@@ -3,7 +3,6 @@
 use mathlib.Core.Path.{_≡_, refl, sym, ap, _∙_, subst}
 use mathlib.Core.Bool.{Bool, true, false}
 use mathlib.Core.Option.{Option, none, some}
-use mathlib.Core.List.{List}
 use Prim.Native.Nat.{ℕ, _-_, _≤_, _<_}
 use native.Mathlib.Omega.{arith}
 use lib.ListN.{length}
@@ -11,8 +10,9 @@ use lib.Dec.{ltb}
 use lib.IntN.{pos}
 use borrow.Author.Tests.{lt-ltb, le-ltb}
 use Rattle.rules.specs.Limits.{recordCount}
-use Rattle.rules.specs.State.{State, Datum, value, handle, Last, split-item, close-item, wait-item, Item, datum, last}
-use Rattle.rules.specs.State.{Registers, RecordState, free-record, running, waiting, recordAt, EndState, free-end, used, endAt, headOf, isFreeEnd}
+use Rattle.rules.specs.State.{State, Datum, value, handle, split-item, close-item, wait-item, Item, datum, last}
+use Rattle.rules.specs.State.{Registers, RecordState, free-record, running, waiting, recordAt}
+use Rattle.rules.specs.State.{EndState, free-end, used, endAt, headOf, isFreeEnd}
 use Rattle.rules.specs.RecordStep.{partnerIn}
 use Rattle.rules.proofs.TestLaws.{true-is-not-false}
 use Rattle.rules.proofs.Rows.{all-passed}
@@ -20,9 +20,10 @@ use Rattle.rules.specs.Refusal.{done}
 use Rattle.rules.specs.Instruction.{Name, Instruction, Decoded, decode}
 use Rattle.rules.specs.EndStep.{Wanted, a-value, a-handle, a-split, Waiter, waiterIn, Meeting, mismatch, delivers, divides, closes}
 use Rattle.rules.specs.EndStep.{isMismatch, endCauses}
-use Rattle.rules.specs.EndStep.{handleChosen, meetDatum, meetSplit, datumAgainst, splitAgainst, meetLasts, meetLast, meetHeads, meeting}
+use Rattle.rules.specs.EndStep.{handleChosen, meetDatum, meetSplit, datumAgainst, splitAgainst, meetHeads, meeting}
 use Rattle.rules.specs.Ask.{askDecoded, askIn, askRecord, askEnd, pickAnswer, ask}
-use Rattle.rules.specs.Printed.{pickPrinted, Printed, printed, printedMeeting, printedRecord, printedDecoded, printedAt, nameOf, instruction-kind}
+use Rattle.rules.specs.Printed.{Printed, printed, nameOf, instruction-kind}
+use Rattle.rules.specs.Printed.{pickPrinted, printedMeeting, printedRecord, printedDecoded, printedAt}
 use Rattle.registers.specs.Registers.{registersIn}
 use Rattle.printed.specs.Meaning.{itemPrinted}
 
@@ -66,7 +67,8 @@ module _ (p : ℕ) (z : Printed) where
   split-tells first second r none h = differ h
   split-tells first second r (some w) h = go (w .wait .wanted) h
     where
-      go : (x : Wanted) → printedMeeting p (meetSplit first second r (w .held) x) ≡ some z → itemPrinted p (last (split-item first second)) ≡ z
+      go : (x : Wanted) → printedMeeting p (meetSplit first second r (w .held) x) ≡ some z
+          → itemPrinted p (last (split-item first second)) ≡ z
       go (a-value next) h = differ h
       go (a-handle places) h = differ h
       go (a-split a m place b m′ place′) h = same h
@@ -213,6 +215,7 @@ unfolding ask printedAt
 done-prints st p st′ h = let x = go (ltb p recordCount) h in record { what = x .0; prints = x .1 }
   where
     go : (b : Bool) → pickAnswer b (askRecord st p) (askEnd st (p - recordCount)) ≡ done st′
-        → (x : Printed) × (pickPrinted b (printedRecord (st .code) p (recordAt st p)) (printedMeeting p (meeting st (p - recordCount))) ≡ some x)
+        → (x : Printed)
+        × (pickPrinted b (printedRecord (st .code) p (recordAt st p)) (printedMeeting p (meeting st (p - recordCount))) ≡ some x)
     go true k = record-done st p st′ k
     go false k = end-done st p (p - recordCount) st′ k

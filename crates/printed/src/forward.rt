@@ -1,5 +1,5 @@
-// One step of a run, with what it prints: each position from one on, going around, is read and then asked, until one steps. A position that
-// cannot step leaves the memory as it was.
+// One step of a run, with what it prints: each position from one on, going around, is read and then asked, until one steps. A position
+// that cannot step leaves the memory as it was.
 ghost use mathlib.Core.Path.{_≡_};
 ghost use Prim.Native.Nat.{_<_};
 ghost use lib.ListN.{length};

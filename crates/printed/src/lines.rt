@@ -1,5 +1,5 @@
-// A line of the printing program, into a lent buffer at a place: the step's number, who was asked, and what was done. Each function answers
-// the place behind what it printed, and asks for just the room that this takes.
+// A line of the printing program, into a lent buffer at a place: the step's number, who was asked, and what was done. Each function
+// answers the place behind what it printed, and asks for just the room that this takes.
 ghost use mathlib.Core.List.{_++_};
 ghost use mathlib.Core.Option.{some};
 ghost use Prim.Native.Nat.{_+_, _≤_};

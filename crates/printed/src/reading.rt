@@ -1,5 +1,5 @@
-// What the step at a position prints, read from the memory before the step is made. Whether the position can step is not tested here: where
-// it cannot, the answer says nothing, and who asks makes the step itself to know.
+// What the step at a position prints, read from the memory before the step is made. Whether the position can step is not tested here:
+// where it cannot, the answer says nothing, and who asks makes the step itself to know.
 ghost use mathlib.Core.Path.{_≡_};
 ghost use mathlib.Core.Option.{some};
 ghost use Prim.Native.Nat.{ℕ, _≤_, _<_};

@@ -1,12 +1,12 @@
-// All that the printing program writes for an image, into a lent buffer that has room for the longest: a line for each step of the run from
-// position 0, then the verdict; or one line for an image that is refused. The text is `traceText` of `rules`, whatever the image.
+// All that the printing program writes for an image, into a lent buffer that has room for the longest: a line for each step of the run
+// from position 0, then the verdict; or one line for an image that is refused. The text is `traceText` of `rules`, whatever the image.
 ghost use mathlib.Core.Path.{_≡_};
 ghost use Prim.Native.Nat.{_≤_};
 ghost use lib.ListN.{length};
 ghost use Rattle.rules.specs.Instruction.{lengths as lengthsOfRules};
 ghost use Rattle.rules.specs.Run.{steps};
 ghost use Rattle.rules.specs.Printed.{traceBudget, runText, traceText};
-ghost use Rattle.rules.specs.Layout.{stateSize, view};
+ghost use Rattle.rules.specs.Layout.{view};
 ghost use Rattle.keeping.specs.Demand3.{SoundMemory};
 ghost use Rattle.text.specs.Written.{Written};
 ghost use Rattle.printed.specs.Traced.{traceLimit, Traced};
@@ -36,8 +36,8 @@ struct Lines {
 // The lines of the steps of a run.
 fn put_steps(m: &mut [u8], lengths: &[u8; 256], out: &mut [u8]) -> Lines
     requires { ⌜ SoundMemory (now m) × (now lengths ≡ lengthsOfRules) × (traceLimit ≤ length (now out)) ⌝ }
-    ensures { λ r. ⌜ Traced (view (now (m .entry))) (steps traceBudget (view (now (m .entry))) 0) (now (out .entry)) (r .end) (r .made) (r .next)
-        (now (m .exit)) (now (out .exit)) ⌝ }
+    ensures { λ r. ⌜ Traced (view (now (m .entry))) (steps traceBudget (view (now (m .entry))) 0) (now (out .entry)) (r .end) (r .made)
+        (r .next) (now (m .exit)) (now (out .exit)) ⌝ }
 {
     let mut end = 0;
     let mut made = 0;

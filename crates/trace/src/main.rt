@@ -1,5 +1,5 @@
-// The printing program: a method image is read from standard input, and its run is printed, as document 01's "One run in full" has it. What is
-// printed is made, and proved, in `printed`.
+// The printing program: a method image is read from standard input, and its run is printed, as document 01's "One run in full" has it.
+// What is printed is made, and proved, in `printed`.
 use libc::STDIN_FILENO;
 use libc::STDOUT_FILENO;
 use printed::TRACE_LIMIT;

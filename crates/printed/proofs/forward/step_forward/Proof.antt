@@ -53,8 +53,8 @@ returns c =
     let at-loop = at-test .before in
     let a = at-loop .before .before .args in
     let l = at-loop .loop in
-    turn-done (a .m .now) (a .position) (l .m) (l .p) (l .tried) (at-test .loop-test .taken) (l .inv .2) (l .inv .3) (at-step .step .ensures)
-    (at-printed .printed-at .result) (at-printed .printed-at .ensures) (c .enum-told .given .1)
+    turn-done (a .m .now) (a .position) (l .m) (l .p) (l .tried) (at-test .loop-test .taken) (l .inv .2) (l .inv .3)
+    (at-step .step .ensures) (at-printed .printed-at .result) (at-printed .printed-at .ensures) (c .enum-told .given .1)
 
 enum-told-2 : tie.Need-enum-told-2 Inv-loop μ-loop
 enum-told-2 c = search needs
@@ -77,8 +77,8 @@ loop-again c =
     let a = at-loop .before .before .args in
     let l = at-loop .loop in
     let next = c .position-after .ensures in
-    let on = turn-on (a .m .now) (a .position) (l .m) (l .p) (l .tried) (at-test .loop-test .taken) (l .inv .2) (l .inv .3) (at-step .step .ensures)
-    _ (c .position-after .result) (at-told .enum-told2 .given .1) next in
+    let on = turn-on (a .m .now) (a .position) (l .m) (l .p) (l .tried) (at-test .loop-test .taken) (l .inv .2) (l .inv .3)
+    (at-step .step .ensures) _ (c .position-after .result) (at-told .enum-told2 .given .1) next in
     (omega (arith, at-test .loop-test .taken), rw next (next-in-range (l .p)), on .0, on .1)
 
 same-length-2 : tie.Need-same-length-2 Inv-loop μ-loop

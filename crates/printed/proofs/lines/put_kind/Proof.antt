@@ -106,7 +106,8 @@ returns-2 c =
     let at-told = at-put .before .before .before in
     let at-start = at-told .before .before .before in
     let n = at-start .args .number in
-    written-as (shown n (at-told .enum-told .given .1)) (rw (toZ-ofZ {w = w32} {z = n} (at-start .fits .number)) at (at-put .put-numbered .ensures))
+    let text = rw (toZ-ofZ {w = w32} {z = n} (at-start .fits .number)) at (at-put .put-numbered .ensures) in
+    written-as (shown n (at-told .enum-told .given .1)) text
 
 same-length-3 : tie.Need-same-length-3
 same-length-3 c = search needs
@@ -118,7 +119,8 @@ returns-3 c =
     let at-told = at-put .before .before .before in
     let at-start = at-told .before .before .before in
     let n = at-start .args .number in
-    written-as (shown n (at-told .enum-told2 .given .1)) (rw (toZ-ofZ {w = w32} {z = n} (at-start .fits .number)) at (at-put .put-numbered2 .ensures))
+    let text = rw (toZ-ofZ {w = w32} {z = n} (at-start .fits .number)) at (at-put .put-numbered2 .ensures) in
+    written-as (shown n (at-told .enum-told2 .given .1)) text
 
 same-length-4 : tie.Need-same-length-4
 same-length-4 c = search needs

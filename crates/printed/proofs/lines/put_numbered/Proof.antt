@@ -12,7 +12,8 @@ use Rattle.printed.proofs.lines.put_numbered.Tie as tie
 put-bytes-requires : tie.Need-put-bytes-requires
 put-bytes-requires c κs =
     let at-start = c .before .before .before in
-    room-first (at-start .args .at) (at-start .args .word .now) (signedDecimal (at-start .args .number)) (at-start .args .out .now) (at-start .pre)
+    let a = at-start .args in
+    room-first (a .at) (a .word .now) (signedDecimal (a .number)) (a .out .now) (at-start .pre)
 
 put-signed-requires : tie.Need-put-signed-requires
 put-signed-requires c κs =

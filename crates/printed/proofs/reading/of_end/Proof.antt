@@ -49,7 +49,8 @@ returns c z h =
     let at-head = c .before .before .before in
     let at-start = at-head .before .before in
     let a = at-start .args in
-    own-empty (view (a .m .now)) (a .position) _ z (at-start .pre .1) refl (head-here at-head ∙ ap headIn (c .before .enum-told .given .1)) h
+    let empty = head-here at-head ∙ ap headIn (c .before .enum-told .given .1) in
+    own-empty (view (a .m .now)) (a .position) _ z (at-start .pre .1) refl empty h
 
 partner-requires : tie.Need-partner-requires
 partner-requires c κs = search needs

@@ -63,11 +63,13 @@ returns-3 c = ap (λ (i : Item). itemPrinted (c .before .before .args .position)
 
 returns-4 : tie.Need-returns-4
 returns-4 c =
-    c .closed .ensures ∙ ap (λ (i : Item). itemPrinted (c .before .before .before .args .position) (itemOf i)) (sym (c .before .enum-told2 .given .1))
+    let p = c .before .before .before .args .position in
+    c .closed .ensures ∙ ap (λ (i : Item). itemPrinted p (itemOf i)) (sym (c .before .enum-told2 .given .1))
 
 returns-5 : tie.Need-returns-5
 returns-5 c =
-    c .closed2 .ensures ∙ ap (λ (i : Item). itemPrinted (c .before .before .before .args .position) (itemOf i)) (sym (c .before .enum-told3 .given .1))
+    let p = c .before .before .before .args .position in
+    c .closed2 .ensures ∙ ap (λ (i : Item). itemPrinted p (itemOf i)) (sym (c .before .enum-told3 .given .1))
 
 pub of-item-spec : {M : Type 1} → statement M
 of-item-spec =

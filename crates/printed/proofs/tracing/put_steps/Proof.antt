@@ -71,8 +71,8 @@ put-line-requires c κs =
     let at-loop = at-test .before in
     let l = at-loop .loop in
     let limit = at-loop .before .before .before .pre .2 in
-    line-room _ _ _ _ _ _ _ (l .inv .3) (at-step .step-forward .ensures) _ (at-x .x .given .1) (at-test .loop-test .taken) (number-fits at-told)
-    limit (l .inv .2)
+    line-room _ _ _ _ _ _ _ (l .inv .3) (at-step .step-forward .ensures) _ (at-x .x .given .1) (at-test .loop-test .taken)
+    (number-fits at-told) limit (l .inv .2)
 
 position-after-requires : tie.Need-position-after-requires Inv-loop μ-loop
 position-after-requires c κs =

@@ -69,7 +69,8 @@ returns c =
     let at-load = at-n .before .before .before in
     let at-start = at-load .before .before .before .before in
     let short = refused-short (at-n .n .given .0 .0) (number-small (at-put .before .before)) in (
-      written-as (refused-image _ (at-start .args .image .now) refl (at-load .load .ensures) _ (at-n .n .given .1)) (at-put .put-refused .ensures),
+      written-as (refused-image _ (at-start .args .image .now) refl (at-load .load .ensures) _ (at-n .n .given .1))
+          (at-put .put-refused .ensures),
       omega (arith, at-put .put-refused .ensures .place, short),
     )
 
