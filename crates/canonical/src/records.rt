@@ -4,16 +4,18 @@ ghost use lib.ListN.{length};
 ghost use Rattle.rules.specs.SoundTest.{all};
 ghost use Rattle.rules.specs.Layout.{recordSize};
 ghost use Rattle.canonical.specs.Canonical.{slotFits, canonicalRegisters, canonicalRecord};
-use crate::places::ENVIRONMENT_FROM;
-use crate::places::RECORD_SIZE;
-use crate::places::SLOTS_FROM;
-use crate::places::STACK_FROM;
-use crate::places::VALUE_SIZE;
 use crate::places::wide;
 use crate::unused::all_zero;
 use rules::END_COUNT;
 use rules::ENVIRONMENT_DEPTH;
 use rules::STACK_DEPTH;
+use rules::places::ENVIRONMENT_COUNT_FROM;
+use rules::places::ENVIRONMENT_FROM;
+use rules::places::RECORD_SIZE;
+use rules::places::SLOTS_FROM;
+use rules::places::STACK_COUNT_FROM;
+use rules::places::STACK_FROM;
+use rules::places::VALUE_SIZE;
 
 // Each slot is empty or holds an end.
 fn slots_fit(slots: &[u8]) -> bool
@@ -34,11 +36,11 @@ fn registers_are_canonical(bytes: &[u8]) -> bool
     requires { ⌜ length (now bytes) ≡ recordSize ⌝ }
     ensures { λ r. ⌜ r ≡ canonicalRegisters (now (bytes .entry)) ⌝ }
 {
-    let stacked = wide(bytes[3]);
+    let stacked = wide(bytes[STACK_COUNT_FROM]);
     if STACK_DEPTH < stacked {
         return false;
     }
-    let bound = wide(bytes[4]);
+    let bound = wide(bytes[ENVIRONMENT_COUNT_FROM]);
     if ENVIRONMENT_DEPTH < bound {
         return false;
     }

@@ -9,7 +9,7 @@ use answers::front;
 use commands::LINE_LIMIT;
 use libc::STDIN_FILENO;
 use libc::STDOUT_FILENO;
-use memory::STATE_SIZE;
+use rules::places::STATE_SIZE;
 use text::length_before;
 
 mod answers; // answers.rt: the answer to a line

@@ -11,12 +11,9 @@ use crate::lists::put_number;
 use crate::lists::put_value;
 use rules::End;
 use rules::QUEUE_DEPTH;
+use rules::places::CELL_SIZE;
+use rules::places::QUEUES_AT;
 use text::put_bytes;
-
-// Where the queues stand, and the bytes of a cell (docs/STATE.md).
-const QUEUES_AT: usize = 12806;
-
-const CELL_SIZE: usize = 8;
 
 // Cell k of an end's queue.
 fn cell(m: &[u8], e: u8, k: usize) -> u64

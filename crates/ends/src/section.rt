@@ -10,22 +10,15 @@ ghost use Rattle.ends.specs.Sections.{wordIn, withWord, partnerByteIn, w
 ghost use Rattle.ends.specs.Sections.{cellAt, cellIn, withCell, cellsIn, withCells};
 use rules::End;
 use rules::QUEUE_DEPTH;
+use rules::places::CELL_SIZE;
+use rules::places::COUNTS_AT;
+use rules::places::FREE_AT;
+use rules::places::PARTNERS_AT;
+use rules::places::QUEUES_AT;
 use words::get8;
 use words::get64;
 use words::put8;
 use words::put64;
-
-// Where the word of free ends, the partners, the queue counts and the queues stand.
-const FREE_AT: usize = 12670;
-
-const PARTNERS_AT: usize = 12678;
-
-const COUNTS_AT: usize = 12742;
-
-const QUEUES_AT: usize = 12806;
-
-// Bytes of a cell.
-const CELL_SIZE: usize = 8;
 
 // Where cell `index` of an end's queue stands.
 fn cell_at(end: End, index: u8) -> usize

@@ -4,6 +4,8 @@ ghost use Prim.Native.Nat.{_<_};
 use image::Found;
 use libc::STDOUT_FILENO;
 use rules::Reply;
+use rules::places::CODE_AT;
+use rules::places::STATE_SIZE;
 
 fn say(text: &[u8]) {
     io::write_all(STDOUT_FILENO, text);
@@ -197,7 +199,7 @@ fn copy(image: &[u8], memory: &mut [u8]) {
         Found::Code { length } => {
             if 2 <= memory.len() {
                 if length <= memory.len() - 2 {
-                    image::copy_code(image, memory, 2);
+                    image::copy_code(image, memory, CODE_AT);
                 }
             }
         }
@@ -207,7 +209,7 @@ fn copy(image: &[u8], memory: &mut [u8]) {
 
 fn copy_case(length: usize, size: usize) {
     let mut out = [170u8; 8704];
-    let mut memory = [85u8; 16902];
+    let mut memory = [85u8; STATE_SIZE];
     write(length, &mut out);
     copy(front(&out, size), &mut memory);
     say(b"copy ");

@@ -12,10 +12,10 @@ ghost use Rattle.rules.specs.Calls.{loadAnswer, load as loadOf};
 ghost use Rattle.rules.specs.Numbers.{replyTo};
 ghost use Rattle.rules.specs.Promise.{Promise};
 use image::Found;
-use memory::CODE_AT;
-use memory::STATE_SIZE;
 use rules::Reply;
 use rules::STATE_LENGTH;
+use rules::places::CODE_AT;
+use rules::places::STATE_SIZE;
 
 // The start state with the code of an image that reads.
 fn install(state: &mut [u8], image: &[u8], length: usize)

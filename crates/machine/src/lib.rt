@@ -8,10 +8,10 @@ ghost use Rattle.machine.specs.Answers.{soundReply, freeAnswer};
 use ends::word::count;
 use ends::word::lowest;
 pub use loading::load;
-use memory::STATE_SIZE;
 use rules::Reply;
 use rules::STATE_LENGTH;
 use rules::UNSOUND;
+use rules::places::STATE_SIZE;
 
 // How many ends are free, and the lowest of them (64 with none free), or one of document 01's numbers.
 pub enum FreeEnds {

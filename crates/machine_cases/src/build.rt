@@ -8,8 +8,22 @@ use crate::text::part;
 use crate::text::same;
 use crate::text::say;
 use crate::text::word_end;
-use memory::CODE_AT;
 use rules::CODE_LIMIT;
+use rules::places::CELL_SIZE;
+use rules::places::CODE_AT;
+use rules::places::COUNTS_AT;
+use rules::places::ENVIRONMENT_COUNT_FROM;
+use rules::places::ENVIRONMENT_FROM;
+use rules::places::FREE_AT;
+use rules::places::PARTNERS_AT;
+use rules::places::PLACE_FROM;
+use rules::places::QUEUE_SIZE;
+use rules::places::QUEUES_AT;
+use rules::places::RECORD_SIZE;
+use rules::places::RECORDS_AT;
+use rules::places::SLOTS_FROM;
+use rules::places::STACK_COUNT_FROM;
+use rules::places::STACK_FROM;
 
 // The record and the end that the next words are about.
 struct Subject {
@@ -17,38 +31,9 @@ struct Subject {
     end: u32,
 }
 
-const RECORDS_AT: usize = 8158;
-
-const RECORD_SIZE: usize = 141;
-
-// In a record: the place, the two counts, the slots, the values.
-const PLACE: usize = 1;
-
-const STACK_COUNT: usize = 3;
-
-const ENVIRONMENT_COUNT: usize = 4;
-
-const SLOTS: usize = 5;
-
-const STACK: usize = 13;
-
-const ENVIRONMENT: usize = 77;
-
 const RUNNING: u8 = 1;
 
 const WAITING: u8 = 2;
-
-const FREE_AT: usize = 12670;
-
-const PARTNERS_AT: usize = 12678;
-
-const COUNTS_AT: usize = 12742;
-
-const QUEUES_AT: usize = 12806;
-
-const QUEUE_SIZE: usize = 64;
-
-const CELL_SIZE: usize = 8;
 
 // The kinds of item.
 const VALUE: u8 = 1;
@@ -261,21 +246,21 @@ fn run_records(m: &mut [u8], first: u32, last: u32) {
 fn value_word(m: &mut [u8], name: &[u8], record: u32, a: u32, b: u32) -> bool {
     let at = record_at(record);
     if same(name, b"stack") {
-        append_values(m, at + STACK_COUNT, at + STACK, a, b);
+        append_values(m, at + STACK_COUNT_FROM, at + STACK_FROM, a, b);
         return true;
     }
     if same(name, b"no-stack") {
-        put(m, at + STACK_COUNT, 0);
-        clear(m, at + STACK, at + ENVIRONMENT);
+        put(m, at + STACK_COUNT_FROM, 0);
+        clear(m, at + STACK_FROM, at + ENVIRONMENT_FROM);
         return true;
     }
     if same(name, b"environment") {
-        append_values(m, at + ENVIRONMENT_COUNT, at + ENVIRONMENT, a, b);
+        append_values(m, at + ENVIRONMENT_COUNT_FROM, at + ENVIRONMENT_FROM, a, b);
         return true;
     }
     if same(name, b"no-environment") {
-        put(m, at + ENVIRONMENT_COUNT, 0);
-        clear(m, at + ENVIRONMENT, at + RECORD_SIZE);
+        put(m, at + ENVIRONMENT_COUNT_FROM, 0);
+        clear(m, at + ENVIRONMENT_FROM, at + RECORD_SIZE);
         return true;
     }
     false
@@ -293,15 +278,15 @@ fn record_word(m: &mut [u8], name: &[u8], record: u32, a: u32, b: u32) -> bool {
         return true;
     }
     if same(name, b"place") {
-        put_two(m, at + PLACE, a);
+        put_two(m, at + PLACE_FROM, a);
         return true;
     }
     if same(name, b"slot") {
-        put(m, at + SLOTS + a as usize, (b % 255 + 1) as u8);
+        put(m, at + SLOTS_FROM + a as usize, (b % 255 + 1) as u8);
         return true;
     }
     if same(name, b"empty") {
-        put(m, at + SLOTS + a as usize, 0);
+        put(m, at + SLOTS_FROM + a as usize, 0);
         return true;
     }
     if same(name, b"freed") {

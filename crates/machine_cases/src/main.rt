@@ -4,8 +4,8 @@
 use build::build;
 use libc::STDIN_FILENO;
 use machine::FreeEnds;
-use memory::STATE_SIZE;
 use rules::Reply;
+use rules::places::STATE_SIZE;
 use text::byte;
 use text::line_end;
 use text::number;

@@ -10,24 +10,14 @@ ghost use Rattle.rules.specs.State.{start};
 ghost use Rattle.rules.specs.Layout.{stateSize, cellSize, queuesAt, layout, view};
 ghost use Rattle.words.specs.Parts.{putAt};
 ghost use Rattle.memory.specs.Sections.{cellCount};
-
-// The fixed length of the state memory.
-pub const STATE_SIZE: usize = 16902;
-
-// Where the code stands, behind its length.
-pub const CODE_AT: usize = 2;
-
-// Where the records, the word of free ends and the queues stand.
-const RECORDS_AT: usize = 8158;
-
-const FREE_AT: usize = 12670;
-
-const QUEUES_AT: usize = 12806;
+use rules::places::CELL_SIZE;
+use rules::places::CODE_AT;
+use rules::places::FREE_AT;
+use rules::places::QUEUES_AT;
+use rules::places::RECORDS_AT;
 
 // Cells of all queues, 8 for each end.
 const CELL_COUNT: usize = 512;
-
-const CELL_SIZE: usize = 8;
 
 // All ends free: a bit for each.
 const ALL_FREE: u64 = 18446744073709551615;

@@ -5,7 +5,7 @@ ghost use Prim.Native.Nat.{_<_};
 ghost use lib.ListN.{length};
 ghost use Rattle.rules.specs.Limits.{positionCount};
 ghost use Rattle.rules.specs.Instruction.{lengths as lengthsOfRules};
-ghost use Rattle.rules.specs.Run.{nextPosition, nextStep};
+ghost use Rattle.rules.specs.Run.{nextStep};
 ghost use Rattle.rules.specs.Layout.{stateSize, view};
 ghost use Rattle.keeping.specs.Demand3.{SoundMemory};
 ghost use Rattle.printed.specs.Forwarded.{Forwarded};
@@ -13,22 +13,12 @@ use crate::kinds::Printed;
 use crate::reading::printed_at;
 use rules::POSITION_COUNT;
 use rules::Reply;
+use runner::position_after;
 
 // Nothing can step, or a step was made, and this is what it prints.
 pub enum Forward {
     Nowhere,
     Stepped(Printed),
-}
-
-// The position after p, going around.
-pub fn position_after(p: u32) -> u32
-    requires { ⌜ p < positionCount ⌝ }
-    ensures { λ r. ⌜ r ≡ nextPosition p ⌝ }
-{
-    if p + 1 == POSITION_COUNT as u32 {
-        return 0;
-    }
-    p + 1
 }
 
 pub fn step_forward(m: &mut [u8], lengths: &[u8; 256], position: u32) -> Forward

@@ -8,7 +8,6 @@ mod reading; // reading.rt: what the step at a position prints
 mod tracing; // tracing.rt: the whole text for an image
 
 pub use forward::Forward;
-pub use forward::position_after;
 pub use forward::step_forward;
 pub use kinds::Kind;
 pub use kinds::Name;

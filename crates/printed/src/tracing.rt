@@ -11,13 +11,13 @@ ghost use Rattle.keeping.specs.Demand3.{SoundMemory};
 ghost use Rattle.text.specs.Written.{Written};
 ghost use Rattle.printed.specs.Traced.{traceLimit, Traced};
 use crate::forward::Forward;
-use crate::forward::position_after;
 use crate::forward::step_forward;
 use crate::lines::put_last;
 use crate::lines::put_line;
 use crate::lines::put_refused;
-use memory::STATE_SIZE;
 use rules::Reply;
+use rules::places::STATE_SIZE;
+use runner::position_after;
 use runner::verdict_of;
 
 // The budget of the printing program.

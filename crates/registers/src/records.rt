@@ -23,17 +23,15 @@ use rules::RECORD_COUNT;
 use rules::Record;
 use rules::SLOT_COUNT;
 use rules::STACK_DEPTH;
-
-// Where the records stand, and where in a record its slots, stack and environment do (docs/STATE.md).
-const RECORDS_AT: usize = 2 + CODE_LIMIT;
-
-const SLOTS_FROM: usize = 5;
-
-const STACK_FROM: usize = SLOTS_FROM + SLOT_COUNT;
-
-const ENVIRONMENT_FROM: usize = STACK_FROM + 4 * STACK_DEPTH;
-
-const RECORD_SIZE: usize = ENVIRONMENT_FROM + 4 * ENVIRONMENT_DEPTH;
+use rules::places::ENVIRONMENT_COUNT_FROM;
+use rules::places::ENVIRONMENT_FROM;
+use rules::places::PLACE_FROM;
+use rules::places::RECORD_SIZE;
+use rules::places::RECORDS_AT;
+use rules::places::SLOTS_FROM;
+use rules::places::STACK_COUNT_FROM;
+use rules::places::STACK_FROM;
+use rules::places::VALUE_SIZE;
 
 // What a record is.
 pub enum Status {
@@ -68,7 +66,7 @@ pub fn place_of(m: &[u8], r: Record) -> u16
     ensures { λ p. ⌜ ((st : State) → Sized st → RecordWithin (recordAt st (recordNumber r)) → now (m .entry) ≡ layout st
         → p ≡ registersIn (recordAt st (recordNumber r)) .place) ⌝ }
 {
-    words::get16(m, start_of(r) + 1)
+    words::get16(m, start_of(r) + PLACE_FROM)
 }
 
 // The registers of record r.
@@ -78,9 +76,9 @@ pub fn load(m: &[u8], r: Record) -> Registers
         → x ≡ registersOf (registersIn (recordAt st (recordNumber r)))) ⌝ }
 {
     let at = start_of(r);
-    let place = words::get16(m, at + 1);
-    let stack_count = words::get8(m, at + 3);
-    let environment_count = words::get8(m, at + 4);
+    let place = words::get16(m, at + PLACE_FROM);
+    let stack_count = words::get8(m, at + STACK_COUNT_FROM);
+    let environment_count = words::get8(m, at + ENVIRONMENT_COUNT_FROM);
     let slots = slots::read(m, at + SLOTS_FROM);
     let stack = values::read(m, at + STACK_FROM);
     let environment = values::read(m, at + ENVIRONMENT_FROM);
@@ -101,7 +99,7 @@ pub fn environment_value(m: &[u8], r: Record, n: u8) -> i32
     ensures { λ v. ⌜ ((st : State) → Sized st → RecordWithin (recordAt st (recordNumber r)) → now (m .entry) ≡ layout st
         → v ≡ getD (registersIn (recordAt st (recordNumber r)) .environment) n (pos 0)) ⌝ }
 {
-    words::get_signed(m, start_of(r) + ENVIRONMENT_FROM + 4 * n as usize)
+    words::get_signed(m, start_of(r) + ENVIRONMENT_FROM + VALUE_SIZE * n as usize)
 }
 
 // The numbers at the front of a record.
@@ -118,9 +116,9 @@ fn write_numbers(
         (status ∷ (bytesOf 2 place ++ («stack_count» ∷ «environment_count» ∷ []))) ⌝ }
 {
     words::put8(m, at, status);
-    words::put16(m, at + 1, place);
-    words::put8(m, at + 3, stack_count);
-    words::put8(m, at + 4, environment_count);
+    words::put16(m, at + PLACE_FROM, place);
+    words::put8(m, at + STACK_COUNT_FROM, stack_count);
+    words::put8(m, at + ENVIRONMENT_COUNT_FROM, environment_count);
 }
 
 // Record r gets a status and registers.

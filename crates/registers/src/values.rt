@@ -12,10 +12,9 @@ ghost use Rattle.rules.specs.Layout.{valueSize, valueBytes};
 ghost use Rattle.words.specs.Parts.{putAt};
 ghost use Rattle.registers.specs.Registers.{valuesAt};
 use rules::STACK_DEPTH;
+use rules::places::VALUE_SIZE;
 
 // Bytes of a value.
-const VALUE_SIZE: usize = 4;
-
 // v in front of the values.
 pub fn in_front(v: i32, values: [i32; STACK_DEPTH]) -> [i32; STACK_DEPTH]
     ensures { λ r. ⌜ ((l : List Value) → values ≡ pad stackDepth (pos 0) l → r ≡ pad stackDepth (pos 0) (v ∷ l)) ⌝ }

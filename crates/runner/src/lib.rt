@@ -8,6 +8,7 @@ mod verdict; // verdict.rt: what a state is when a run ends
 pub use running::Ran;
 pub use running::run;
 pub use searching::Stepped;
+pub use searching::position_after;
 pub use searching::step_from;
 pub use verdict::Verdict;
 pub use verdict::verdict_of;

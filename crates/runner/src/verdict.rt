@@ -10,10 +10,10 @@ ghost use Rattle.keeping.specs.Demand3.{SoundMemory};
 ghost use Rattle.runner.specs.Runs.{verdictCode, steppedBy};
 use crate::searching::Stepped;
 use crate::searching::step_from;
-use memory::STATE_SIZE;
 use registers::Status;
 use rules::RECORD_COUNT;
 use rules::Record;
+use rules::places::STATE_SIZE;
 
 pub enum Verdict {
     Spent,

@@ -19,14 +19,14 @@ use crate::counts::add_one;
 use crate::lasts::Last;
 use crate::lasts::last_of;
 use canonical::is_free;
-use canonical::places::FREE_AT;
-use canonical::places::RECORD_SIZE;
-use canonical::places::RECORDS_AT;
-use canonical::places::SLOTS_FROM;
-use canonical::places::STACK_FROM;
 use canonical::places::wide;
 use rules::END_COUNT;
 use rules::RECORD_COUNT;
+use rules::places::FREE_AT;
+use rules::places::RECORD_SIZE;
+use rules::places::RECORDS_AT;
+use rules::places::SLOTS_FROM;
+use rules::places::STACK_FROM;
 use words::get64;
 
 // A slot that holds an end counts for it.
