@@ -1,56 +1,27 @@
--- How long a line of the printing program can be: a number below a power of ten has so many digits. Assumes nothing.
+-- How long a line of the printing program can be. Assumes nothing.
 use mathlib.Core.Path.{ap}
 use mathlib.Core.List.{List, [], _∷_, _++_}
 use mathlib.Core.Option.{some}
-use Prim.Native.Nat.{ℕ, zero, suc, _+_, _-_, _/_, _%_, _^_, _≤_, _<_}
+use Prim.Native.Nat.{ℕ, _+_, _-_, _≤_, _<_}
 use native.Mathlib.Decide.{decLt}
 use native.Mathlib.Omega.{arith}
 use lib.ListN.{length, length-append}
-use lib.IntN.{ℤ, pos, negsuc}
+use lib.IntN.{ℤ}
 use mir.Syntax.{w32}
 use mir.Val.{SFits}
 use Rattle.rules.specs.Limits.{recordCount, positionCount}
-use Rattle.rules.specs.Text.{text, digitsBefore, decimal, signedDecimal}
+use Rattle.rules.specs.Text.{text, decimal}
 use Rattle.rules.specs.Instruction.{Name, cst-name, access-name, store-name, add-name, mul-name, leq-name, put-name, get-name, split-name}
 use Rattle.rules.specs.Instruction.{fork-name, plug-name, close-name, halt-name, same-name, hput-name, hcase-name, run-name}
 use Rattle.rules.specs.Printed.{Kind, instruction-kind, value-kind, handle-kind, split-kind, close-kind, Printed}
 use Rattle.rules.specs.Printed.{nameText, kindText, positionText, lineText, verdictText}
-use Rattle.text.proofs.Decimals.{digitsLeft, digits-first, digits-next, less-left}
+use Rattle.text.proofs.Shortness.{decimal-short, signed-short}
 use Rattle.runner.specs.declared.verdict.Verdict.{Verdict}
 use Rattle.runner.specs.declared.verdict.Verdict.the-variants.{Spent, Finished, Stuck}
 use Rattle.printed.specs.Meaning.{verdictIn, lastLine}
 use Rattle.printed.specs.Traced.{lineLimit, lastLimit}
 use Rattle.printed.proofs.Rooms.{record-text, end-text, fromPosition, fromKind, line-text}
 use Rattle.printed.proofs.Rooms.{fromSteps, fromNext, last-text, refusedWord, refused-text}
-
--- ---- numbers
-
-left-short : (most k rest : ℕ) (low : List ℕ) → rest < 10 ^ k → length (digitsLeft most rest low) ≤ k + length low
-unfolding digitsLeft digitsBefore
-left-short zero k rest low h = go rest
-  where
-    go : (rest : ℕ) → length (digitsLeft zero rest low) ≤ k + length low
-    go zero = omega arith
-    go (suc j) = omega arith
-left-short (suc most) k rest low h = go k rest h (λ k′ rest′ low′ h′. left-short most k′ rest′ low′ h′)
-  where
-    go : (k rest : ℕ) → rest < 10 ^ k
-        → ((k′ rest′ : ℕ) (low′ : List ℕ) → rest′ < 10 ^ k′ → length (digitsLeft most rest′ low′) ≤ k′ + length low′)
-        → length (digitsLeft (suc most) rest low) ≤ k + length low
-    go k zero h shorter = omega arith
-    go zero (suc j) h shorter = absurd (omega arith)
-    go (suc k) (suc j) h shorter =
-        let more = shorter k (suc j / 10) ((48 + suc j % 10) ∷ low) (less-left k (suc j) h) in
-        omega (arith, more, ap length (digits-next most (suc j) low (omega arith)))
-
-decimal-short : (k n : ℕ) → n < 10 ^ suc k → length (decimal n) ≤ suc k
-decimal-short k n h =
-    omega (arith, ap length (digits-first n), left-short 19 k (n / 10) ((48 + n % 10) ∷ []) (less-left k n h))
-
-signed-short : (z : ℤ) → SFits w32 z → length (signedDecimal z) ≤ 11
-unfolding signedDecimal text
-signed-short (pos n) f = let l = f .sfits in omega (arith, decimal-short 9 n (omega arith))
-signed-short (negsuc n) f = let l = f .sfits in omega (arith, decimal-short 9 (suc n) (omega arith))
 
 -- ---- the parts of a line
 
