@@ -1,20 +1,21 @@
 -- What the layout of a state shows of one end is that end of the state. Assumes nothing.
-use mathlib.Core.Path.{_≡_, refl, ap, _∙_}
+use mathlib.Core.Path.{_≡_, refl, sym, ap, _∙_}
 use mathlib.Core.Bool.{false}
 use mathlib.Core.List.{List}
-use Prim.Native.Nat.{ℕ, _<_}
+use Prim.Native.Nat.{ℕ, zero, suc, _+_, _≤_, _<_}
+use native.Mathlib.Omega.{arith}
 use lib.ListN.{getD}
 use Rattle.rules.specs.Limits.{endCount, queueDepth}
 use Rattle.rules.specs.Bytes.{numberAt}
 use Rattle.rules.specs.State.{State, EndState, free-end, used, endAt, endOr, partnerOf, queueLength, isFreeEnd}
 use Rattle.rules.specs.RecordStep.{partnerIn}
-use Rattle.rules.specs.Layout.{freeSize, cellSize, freeAt, freeWord, partnerByte, layout}
+use Rattle.rules.specs.Layout.{freeSize, cellSize, freeAt, countsAt, freeWord, partnerByte, layout}
 use Rattle.rules.proofs.TestLaws.{true-is-not-false}
 use Rattle.words.proofs.Tables.{table-is}
 use Rattle.keeping.proofs.LayoutLaws.{Sized}
 use Rattle.memory.specs.Sections.{cellsOf}
 use Rattle.memory.proofs.States.{length-cells, word-read, partner-read, count-read, cell-read}
-use Rattle.ends.specs.Sections.{wordIn, partnerByteIn, countIn, cellAt, cellIn, cellsIn}
+use Rattle.ends.specs.Sections.{wordIn, partnerByteIn, countIn, eightCountsIn, cellAt, cellIn, cellsIn}
 use Rattle.ends.specs.Ends.{EndFits}
 use Rattle.ends.proofs.Queues.{cells-fit}
 
@@ -30,6 +31,16 @@ partner-known st e u = go (endAt st e) u
     go : (x : EndState) → isFreeEnd x ≡ false → endOr 0 (partnerOf x) ≡ endOr endCount (partnerOf x)
     go free-end u = true-is-not-false refl u
     go (used m ds l) u = refl
+
+-- a number that is zero stands in bytes that are zero
+zeros-in : (k : ℕ) (m : List ℕ) (at : ℕ) → numberAt k m at ≡ 0 → (i : ℕ) → i < k → getD m (at + i) 0 ≡ 0
+zeros-in zero m at e i h = absurd (omega (arith, h))
+zeros-in (suc k) m at e zero h =
+    let here : at + 0 ≡ at = omega arith in
+    ap (λ (j : ℕ). getD m j 0) here ∙ omega (arith, e)
+zeros-in (suc k) m at e (suc i) h =
+    let there : at + suc i ≡ at + 1 + i = omega arith in
+    ap (λ (j : ℕ). getD m j 0) there ∙ zeros-in k m (at + 1) (omega (arith, e)) i (omega (arith, h))
 
 module _ (st : State) (z : Sized st) (m : List ℕ) (laid : m ≡ layout st) where
   pub word-is : wordIn m ≡ freeWord (st .ends)
@@ -50,3 +61,16 @@ module _ (st : State) (z : Sized st) (m : List ℕ) (laid : m ≡ layout st) whe
     pub cells-are : EndFits (endAt st e) → cellsIn m e ≡ cellsOf (endAt st e)
     unfolding cellsIn
     cells-are f = table-is 0 queueDepth (cellIn m e) (cellsOf (endAt st e)) (length-cells (endAt st e)) (cell-is f)
+
+  -- eight counts that are zero as one number
+  pub eight-empty : (e : ℕ) → e + 8 ≤ endCount → eightCountsIn m e ≡ 0 → (i : ℕ) → i < 8 → queueLength (endAt st (e + i)) ≡ 0
+  unfolding eightCountsIn
+  eight-empty e h none i l =
+      let there : countsAt + (e + i) ≡ countsAt + e + i = omega arith in
+      sym (count-is (e + i) (omega (arith, h, l))) ∙ ap (λ (j : ℕ). getD m j 0) there ∙ zeros-in 8 m (countsAt + e) none i l
+
+  -- one count that is zero
+  pub one-empty : (e : ℕ) → e < endCount → countIn m e ≡ 0 → (i : ℕ) → i < 1 → queueLength (endAt st (e + i)) ≡ 0
+  one-empty e h none i l =
+      let here : e + i ≡ e = omega (arith, l) in
+      ap (λ (j : ℕ). queueLength (endAt st j)) here ∙ sym (count-is e h) ∙ none

@@ -29,6 +29,10 @@ withPartnerByte m e partner = putAt m (partnersAt + e) (partner ∷ [])
 abbrev pub countIn : List ℕ → (e : ℕ) → ℕ
 countIn m e = getD m (countsAt + e) 0
 
+-- and on the seven ends after it, as one number
+unfoldable pub eightCountsIn : List ℕ → (e : ℕ) → ℕ
+eightCountsIn m e = numberAt 8 m (countsAt + e)
+
 abbrev pub withCount : List ℕ → (e count : ℕ) → List ℕ
 withCount m e count = putAt m (countsAt + e) (count ∷ [])
 

@@ -13,6 +13,7 @@ pub use change::set_partner;
 pub use change::take_head;
 pub use item::Head;
 pub use item::Item;
+pub use reading::empty_from;
 pub use reading::free_word;
 pub use reading::head;
 pub use reading::is_free;

@@ -1,7 +1,7 @@
 // One end of the state memory: is it free, its partner, how many items are queued on it, what heads its queue, and whether its last item is
 // given. Each answer is that of the state whose layout the memory is.
 ghost use mathlib.Core.Path.{_≡_};
-ghost use Prim.Native.Nat.{_≤_, _<_};
+ghost use Prim.Native.Nat.{ℕ, _+_, _≤_, _<_};
 ghost use lib.ListN.{length};
 ghost use Rattle.rules.specs.Limits.{endCount, queueDepth};
 ghost use Rattle.rules.specs.Numbers.{endNumber};
@@ -15,9 +15,11 @@ use crate::item::Head;
 use crate::item::item_in;
 use crate::section::get_cell;
 use crate::section::get_count;
+use crate::section::get_eight_counts;
 use crate::section::get_partner;
 use crate::section::get_word;
 use crate::word::names;
+use rules::END_COUNT;
 use rules::End;
 
 // The word of free ends.
@@ -59,6 +61,24 @@ pub fn head(m: &[u8], end: End) -> Head
         → headIn r ≡ headOf (endAt st (endNumber end))) ⌝ }
 {
     item_in(get_cell(m, end, 0))
+}
+
+// How many ends, from this one on, one look shows to have nothing queued: eight, this one alone, or none.
+pub fn empty_from(m: &[u8], end: End) -> u8
+    requires { ⌜ (length (now m) ≡ stateSize) × (endNumber end < endCount) ⌝ }
+    ensures within { λ r. ⌜ endNumber end + r ≤ endCount ⌝ }
+    ensures empty { λ r. ⌜ ((st : State) → Sized st → now (m .entry) ≡ layout st → (i : ℕ) → i < r
+        → queueLength (endAt st (endNumber end + i)) ≡ 0) ⌝ }
+{
+    if end.0 as usize + 8 <= END_COUNT {
+        if get_eight_counts(m, end) == 0 {
+            return 8;
+        }
+    }
+    if get_count(m, end) == 0 {
+        return 1;
+    }
+    0
 }
 
 // Is the last item given, a split, a close or a wait?

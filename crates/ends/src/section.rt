@@ -1,12 +1,12 @@
 // The word of free ends, and the partner, the queue count and the queue cells of one end: read and written where they stand in the state
 // memory. Each write leaves all other bytes as they were.
 ghost use mathlib.Core.Path.{_≡_};
-ghost use Prim.Native.Nat.{_<_};
+ghost use Prim.Native.Nat.{_+_, _≤_, _<_};
 ghost use lib.ListN.{length};
 ghost use Rattle.rules.specs.Limits.{endCount, queueDepth};
 ghost use Rattle.rules.specs.Numbers.{endNumber};
 ghost use Rattle.rules.specs.Layout.{stateSize};
-ghost use Rattle.ends.specs.Sections.{wordIn, withWord, partnerByteIn, withPartnerByte, countIn, withCount};
+ghost use Rattle.ends.specs.Sections.{wordIn, withWord, partnerByteIn, withPartnerByte, countIn, eightCountsIn, withCount};
 ghost use Rattle.ends.specs.Sections.{cellAt, cellIn, withCell, cellsIn, withCells};
 use rules::End;
 use rules::QUEUE_DEPTH;
@@ -47,6 +47,14 @@ pub fn get_count(m: &[u8], end: End) -> u8
     ensures { λ r. ⌜ r ≡ countIn (now (m .entry)) (endNumber end) ⌝ }
 {
     get8(m, COUNTS_AT + end.0 as usize)
+}
+
+// The counts of an end and of the seven after it.
+pub fn get_eight_counts(m: &[u8], end: End) -> u64
+    requires { ⌜ (length (now m) ≡ stateSize) × (endNumber end + 8 ≤ endCount) ⌝ }
+    ensures { λ r. ⌜ r ≡ eightCountsIn (now (m .entry)) (endNumber end) ⌝ }
+{
+    get64(m, COUNTS_AT + end.0 as usize)
 }
 
 pub fn get_cell(m: &[u8], end: End, index: u8) -> u64

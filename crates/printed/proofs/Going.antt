@@ -7,7 +7,6 @@ use Prim.Native.Nat.{ℕ, suc, _+_, _-_, _≤_, _<_}
 use native.Mathlib.Omega.{arith}
 use Rattle.rules.specs.Limits.{positionCount}
 use Rattle.rules.specs.State.{State}
-use Rattle.rules.specs.Ask.{ask}
 use Rattle.rules.specs.Run.{Step, nextPosition, firstOf, nextStep}
 use Rattle.rules.specs.Printed as rules
 use Rattle.rules.specs.Printed.{printedAt}
@@ -20,11 +19,11 @@ use Rattle.asking.specs.Stepped.{PositionStepped}
 use Rattle.runner.specs.declared.searching.Stepped as runner
 use Rattle.runner.specs.declared.searching.Stepped.the-variants as place
 use Rattle.runner.specs.Runs.{steppedBy, memoryBy}
-use Rattle.runner.proofs.Search.{asked-done, asked-refused, found-here, not-here, none-found}
 use Rattle.printed.specs.declared.kinds.Printed.{Printed}
 use Rattle.printed.specs.declared.forward.Forward.the-variants.{Nowhere, Stepped}
 use Rattle.printed.specs.Meaning.{PrintsAt, printedOf}
 use Rattle.printed.specs.Forwarded.{Forwarded, stepPrinted}
+use Rattle.printed.proofs.Asking.{found-here, not-here, none-found}
 use Rattle.printed.proofs.Telling.{done-prints, told-position}
 
 pub search-all : (st : State) (p : ℕ) → nextStep st p ≡ firstOf (positionCount - 0) st p
@@ -53,7 +52,7 @@ module _ (m₀ : List ℕ) (position : ℕ) (m : List ℕ) (p tried : ℕ) (left
       → Forwarded m₀ (nextStep (view m₀) position) (Stepped shown) left
   turn-done shown prints is =
       go (nextStep (view m₀) position) refl
-      (found-here m₀ position p tried left-to-try so-far (asked-done (ask (view m₀) p) m₀ asked₀ is) refl)
+      (found-here m₀ position p tried left-to-try so-far asked₀ is)
       (subst (λ (x : List ℕ). PrintsAt (view x) p shown) same prints)
     where
       go : (x : Option Step) → nextStep (view m₀) position ≡ x
@@ -78,7 +77,7 @@ module _ (m₀ : List ℕ) (position : ℕ) (m : List ℕ) (p tried : ℕ) (left
   pub turn-on : (n next : ℕ) → reply ≡ Refused n → next ≡ nextPosition p
       → (left ≡ m₀) × (nextStep (view m₀) position ≡ firstOf (positionCount - (tried + 1)) (view m₀) next)
   turn-on n next is e =
-      let further = not-here m₀ position p tried left-to-try so-far (asked-refused (ask (view m₀) p) m₀ asked₀ n is) next refl e in
+      let further = not-here m₀ position p tried left-to-try so-far asked₀ n next is e in
       let one-less : positionCount - suc tried ≡ positionCount - (tried + 1) = omega arith in
       (further .unchanged, further .goes-on ∙ ap (λ (k : ℕ). firstOf k (view m₀) next) one-less)
 

@@ -1,4 +1,5 @@
 pub mod Telling
+pub mod Asking
 pub mod Going
 pub mod Rooms
 pub mod Lengths

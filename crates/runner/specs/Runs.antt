@@ -1,12 +1,14 @@
 -- What the answers of the runner stand for, and what the steps of a run leave. Assumes nothing.
 use mathlib.Core.Path.{_≡_}
+use mathlib.Core.Bool.{false}
 use mathlib.Core.Option.{Option, none, some}
 use mathlib.Core.List.{List}
-use Prim.Native.Nat.{ℕ, _<_}
+use Prim.Native.Nat.{ℕ, _<_, _≤_}
 use lib.ListN.{length}
 use Rattle.rules.specs.Limits.{positionCount}
 use Rattle.rules.specs.State.{State}
-use Rattle.rules.specs.Refusal.{Answer, refused, done}
+use Rattle.rules.specs.Refusal.{Answer, refused, done, isDone}
+use Rattle.rules.specs.Ask.{ask}
 use Rattle.rules.specs.Run as rules
 use Rattle.rules.specs.Run.{Step, reachedBy, positionAfter}
 use Rattle.rules.specs.Layout.{layout}
@@ -17,6 +19,12 @@ use Rattle.runner.specs.declared.verdict.Verdict.{Verdict}
 use Rattle.runner.specs.declared.verdict.Verdict.the-variants.{Spent, Finished, Stuck}
 use Rattle.runner.specs.declared.running.Ran.{Ran}
 use Rattle.runner.specs.declared.running.Ran.the-variants.{Made, Refused}
+
+-- none of the positions from p up to q can step, and q is no more than `most`
+pub record PassedTo (st : State) (p q most : ℕ) : Type 0 where
+  pub upward : p ≤ q
+  pub within : q ≤ most
+  pub none-between : (i : ℕ) → p ≤ i → i < q → isDone (ask st i) ≡ false
 
 -- where a step is made
 abbrev pub steppedBy : Option Step → Stepped
