@@ -1,43 +1,43 @@
--- `put_records` puts one line after the other. The invariant: the lines took the room of as many lines at most. Assumes nothing.
-use mathlib.Core.Path.{_≡_, refl}
-use Prim.Native.Nat.{_+_, _*_, _-_, _≤_}
-use native.Mathlib.Omega.{arith}
-use lib.ListN.{length}
-use Rattle.rules.specs.Limits.{recordCount}
-use Rattle.dump.specs.Rooms.{recordRoom}
-use borrow.Author.Needs.{needs}
 use Rattle.dump.proofs.put_records.Statement.{statement}
 use Rattle.dump.proofs.put_records.Tie as tie
 
 abbrev Inv-loop : tie.InvT-loop
-Inv-loop out₀ at m next₀ r₀ out next r = (r ≤ recordCount) × (length out ≡ length out₀) × (next ≤ at + recordRoom * r)
+Inv-loop out₀ at m next₀ r₀ out next r = ?
 
 abbrev μ-loop : tie.MeasureT-loop
-μ-loop out₀ at m next₀ r₀ out next r = recordCount - r
+μ-loop out₀ at m next₀ r₀ out next r = ?
 
+-- src/lib.rt:53:5
 loop-holds : tie.Need-loop-holds Inv-loop μ-loop
-loop-holds c = (omega arith, refl, omega arith)
+loop-holds c = ?
 
+-- src/lib.rt:54:54
 cast-put-record : tie.Need-cast-put-record Inv-loop μ-loop
-cast-put-record c = search needs
+cast-put-record c = ?
 
+-- src/lib.rt:54:9
 put-record-requires : tie.Need-put-record-requires Inv-loop μ-loop
-put-record-requires c κs = search needs
+put-record-requires c κs = ?
 
+-- src/lib.rt:55:9
 add-r : tie.Need-add-r Inv-loop μ-loop
-add-r c = search needs
+add-r c = ?
 
+-- src/lib.rt:53:5
 loop-less : tie.Need-loop-less Inv-loop μ-loop
-loop-less c = search needs
+loop-less c = ?
 
+-- src/lib.rt:53:5
 loop-again : tie.Need-loop-again Inv-loop μ-loop
-loop-again c = (omega arith, omega arith, omega arith)
+loop-again c = ?
 
+-- src/lib.rt:46:1
 same-length : tie.Need-same-length Inv-loop μ-loop
-same-length c = search needs
+same-length c = ?
 
+-- src/lib.rt:46:1
 returns : tie.Need-returns Inv-loop μ-loop
-returns c = search needs
+returns c = ?
 
 pub put-records-spec : {M : Type 1} → statement M
 put-records-spec =

@@ -1,54 +1,51 @@
--- `put_queue` puts one item after the other. The invariant: k items took the room of k items at most. Assumes nothing.
-use mathlib.Core.Path.{_≡_, refl}
-use Prim.Native.Nat.{_+_, _*_, _-_, _≤_}
-use native.Mathlib.Omega.{arith}
-use lib.ListN.{length}
-use Rattle.dump.specs.Rooms.{itemRoom}
-use borrow.Author.Needs.{needs}
 use Rattle.dump.proofs.end_line.put_queue.Statement.{statement}
 use Rattle.dump.proofs.end_line.put_queue.Tie as tie
 
 abbrev Inv-loop : tie.InvT-loop
-Inv-loop out₀ at m e count most next₀ k₀ t9 out next k = (k ≤ most) × (length out ≡ length out₀) × (next ≤ at + itemRoom * k)
+Inv-loop out₀ at m e count next₀ k₀ out next k = ?
 
 abbrev μ-loop : tie.MeasureT-loop
-μ-loop out₀ at m e count most next₀ k₀ t9 out next k = most - k
+μ-loop out₀ at m e count next₀ k₀ out next k = ?
 
-least-requires : tie.Need-least-requires Inv-loop μ-loop
-least-requires c κs = search needs
+-- src/end_line.rt:79:17
+queued-requires : tie.Need-queued-requires Inv-loop μ-loop
+queued-requires c κs = ?
 
+-- src/end_line.rt:79:17
+cast-count : tie.Need-cast-count Inv-loop μ-loop
+cast-count c = ?
+
+-- src/end_line.rt:82:5
 loop-holds : tie.Need-loop-holds Inv-loop μ-loop
-loop-holds c = (omega arith, refl, omega arith)
+loop-holds c = ?
 
+-- src/end_line.rt:83:9
 put-next-requires : tie.Need-put-next-requires Inv-loop μ-loop
-put-next-requires c κs = search needs
+put-next-requires c κs = ?
 
+-- src/end_line.rt:84:9
 add-k : tie.Need-add-k Inv-loop μ-loop
-add-k c = search needs
+add-k c = ?
 
+-- src/end_line.rt:82:5
 loop-less : tie.Need-loop-less Inv-loop μ-loop
-loop-less c = search needs
+loop-less c = ?
 
+-- src/end_line.rt:82:5
 loop-again : tie.Need-loop-again Inv-loop μ-loop
-loop-again c = (omega arith, omega arith, omega arith)
+loop-again c = ?
 
-slice-aggregate-put-bytes : tie.Need-slice-aggregate-put-bytes Inv-loop μ-loop
-slice-aggregate-put-bytes c = search needs
+-- src/end_line.rt:86:5
+put-dash-requires : tie.Need-put-dash-requires Inv-loop μ-loop
+put-dash-requires c κs = ?
 
-put-bytes-requires : tie.Need-put-bytes-requires Inv-loop μ-loop
-put-bytes-requires c κs = search needs
-
+-- src/end_line.rt:74:1
 same-length : tie.Need-same-length Inv-loop μ-loop
-same-length c = search needs
+same-length c = ?
 
+-- src/end_line.rt:74:1
 returns : tie.Need-returns Inv-loop μ-loop
-returns c = search needs
-
-same-length-2 : tie.Need-same-length-2 Inv-loop μ-loop
-same-length-2 c = search needs
-
-returns-2 : tie.Need-returns-2 Inv-loop μ-loop
-returns-2 c = search needs
+returns c = ?
 
 pub put-queue-spec : {M : Type 1} → statement M
 put-queue-spec =
@@ -56,15 +53,13 @@ put-queue-spec =
     (tie.spec
     Inv-loop
     μ-loop
-    least-requires
+    queued-requires
+    cast-count
     loop-holds
     put-next-requires
     add-k
     loop-less
     loop-again
-    slice-aggregate-put-bytes
-    put-bytes-requires
+    put-dash-requires
     same-length
-    returns
-    same-length-2
-    returns-2)
+    returns)

@@ -1,55 +1,59 @@
--- `put_slots` puts one slot after the other. The invariant: i slots took the room of i slots at most. Assumes nothing.
-use mathlib.Core.Path.{_≡_, refl}
-use Prim.Native.Nat.{_+_, _*_, _-_, _≤_}
-use native.Mathlib.Omega.{arith}
-use lib.ListN.{length}
-use Rattle.rules.specs.Limits.{slotCount}
-use Rattle.dump.specs.Rooms.{slotRoom}
-use borrow.Author.Needs.{needs}
 use Rattle.dump.proofs.lists.put_slots.Statement.{statement}
 use Rattle.dump.proofs.lists.put_slots.Tie as tie
 
 abbrev Inv-loop : tie.InvT-loop
-Inv-loop out₀ at slots next₀ i₀ t7 out next i = (i ≤ slotCount) × (length out ≡ length out₀) × (next ≤ at + slotRoom * i)
+Inv-loop out₀ at slots next₀ shown₀ c₀ out next shown c = ?
 
 abbrev μ-loop : tie.MeasureT-loop
-μ-loop out₀ at slots next₀ i₀ t7 out next i = slotCount - i
+μ-loop out₀ at slots next₀ shown₀ c₀ out next shown c = ?
 
+-- src/lists.rt:90:5
 loop-holds : tie.Need-loop-holds Inv-loop μ-loop
-loop-holds c = (omega arith, refl, omega arith)
+loop-holds c = ?
 
+-- src/lists.rt:91:12
+array-read-if1 : tie.Need-array-read-if1 Inv-loop μ-loop
+array-read-if1 c = ?
+
+-- src/lists.rt:92:50
 array-read-put-slot : tie.Need-array-read-put-slot Inv-loop μ-loop
-array-read-put-slot c = search needs
+array-read-put-slot c = ?
 
+-- src/lists.rt:92:50
+sub-put-slot : tie.Need-sub-put-slot Inv-loop μ-loop
+sub-put-slot c = ?
+
+-- src/lists.rt:92:13
 put-slot-requires : tie.Need-put-slot-requires Inv-loop μ-loop
-put-slot-requires c κs = search needs
+put-slot-requires c κs = ?
 
-add-i : tie.Need-add-i Inv-loop μ-loop
-add-i c = search needs
+-- src/lists.rt:93:13
+add-shown : tie.Need-add-shown Inv-loop μ-loop
+add-shown c = ?
 
+-- src/lists.rt:95:9
+add-c : tie.Need-add-c Inv-loop μ-loop
+add-c c = ?
+
+-- src/lists.rt:90:5
 loop-less : tie.Need-loop-less Inv-loop μ-loop
-loop-less c = search needs
+loop-less c = ?
 
+-- src/lists.rt:90:5
 loop-again : tie.Need-loop-again Inv-loop μ-loop
-loop-again c = (omega arith, omega arith, omega arith)
+loop-again c = ?
 
-slice-aggregate-put-bytes : tie.Need-slice-aggregate-put-bytes Inv-loop μ-loop
-slice-aggregate-put-bytes c = search needs
+-- src/lists.rt:97:5
+put-dash-requires : tie.Need-put-dash-requires Inv-loop μ-loop
+put-dash-requires c κs = ?
 
-put-bytes-requires : tie.Need-put-bytes-requires Inv-loop μ-loop
-put-bytes-requires c κs = search needs
-
+-- src/lists.rt:83:1
 same-length : tie.Need-same-length Inv-loop μ-loop
-same-length c = search needs
+same-length c = ?
 
+-- src/lists.rt:83:1
 returns : tie.Need-returns Inv-loop μ-loop
-returns c = search needs
-
-same-length-2 : tie.Need-same-length-2 Inv-loop μ-loop
-same-length-2 c = search needs
-
-returns-2 : tie.Need-returns-2 Inv-loop μ-loop
-returns-2 c = search needs
+returns c = ?
 
 pub put-slots-spec : {M : Type 1} → statement M
 put-slots-spec =
@@ -58,14 +62,14 @@ put-slots-spec =
     Inv-loop
     μ-loop
     loop-holds
+    array-read-if1
     array-read-put-slot
+    sub-put-slot
     put-slot-requires
-    add-i
+    add-shown
+    add-c
     loop-less
     loop-again
-    slice-aggregate-put-bytes
-    put-bytes-requires
+    put-dash-requires
     same-length
-    returns
-    same-length-2
-    returns-2)
+    returns)

@@ -1,60 +1,51 @@
--- `put_values` puts one value after the other. The invariant: k values took the room of k values at most. Assumes nothing.
-use mathlib.Core.Path.{_≡_, refl}
-use Prim.Native.Nat.{_+_, _*_, _-_, _≤_}
-use native.Mathlib.Omega.{arith}
-use lib.ListN.{length}
-use Rattle.dump.specs.Rooms.{valueRoom}
-use borrow.Author.Needs.{needs}
 use Rattle.dump.proofs.lists.put_values.Statement.{statement}
 use Rattle.dump.proofs.lists.put_values.Tie as tie
 
 abbrev Inv-loop : tie.InvT-loop
-Inv-loop out₀ at count values most next₀ k₀ t9 out next k = (k ≤ most) × (length out ≡ length out₀) × (next ≤ at + valueRoom * k)
+Inv-loop out₀ at count values next₀ k₀ out next k = ?
 
 abbrev μ-loop : tie.MeasureT-loop
-μ-loop out₀ at count values most next₀ k₀ t9 out next k = most - k
+μ-loop out₀ at count values next₀ k₀ out next k = ?
 
-least-requires : tie.Need-least-requires Inv-loop μ-loop
-least-requires c κs = search needs
-
+-- src/lists.rt:65:5
 loop-holds : tie.Need-loop-holds Inv-loop μ-loop
-loop-holds c = (omega arith, refl, omega arith)
+loop-holds c = ?
 
-mul-put-next : tie.Need-mul-put-next Inv-loop μ-loop
-mul-put-next c = search needs
+-- src/lists.rt:66:40
+mul-put-value : tie.Need-mul-put-value Inv-loop μ-loop
+mul-put-value c = ?
 
-array-copy-out-put-next : tie.Need-array-copy-out-put-next Inv-loop μ-loop
-array-copy-out-put-next c = search needs
+-- src/lists.rt:66:40
+array-copy-out-put-value : tie.Need-array-copy-out-put-value Inv-loop μ-loop
+array-copy-out-put-value c = ?
 
-put-next-requires : tie.Need-put-next-requires Inv-loop μ-loop
-put-next-requires c κs = search needs
+-- src/lists.rt:66:9
+put-value-requires : tie.Need-put-value-requires Inv-loop μ-loop
+put-value-requires c κs = ?
 
+-- src/lists.rt:67:9
 add-k : tie.Need-add-k Inv-loop μ-loop
-add-k c = search needs
+add-k c = ?
 
+-- src/lists.rt:65:5
 loop-less : tie.Need-loop-less Inv-loop μ-loop
-loop-less c = search needs
+loop-less c = ?
 
+-- src/lists.rt:65:5
 loop-again : tie.Need-loop-again Inv-loop μ-loop
-loop-again c = (omega arith, omega arith, omega arith)
+loop-again c = ?
 
-slice-aggregate-put-bytes : tie.Need-slice-aggregate-put-bytes Inv-loop μ-loop
-slice-aggregate-put-bytes c = search needs
+-- src/lists.rt:69:5
+put-dash-requires : tie.Need-put-dash-requires Inv-loop μ-loop
+put-dash-requires c κs = ?
 
-put-bytes-requires : tie.Need-put-bytes-requires Inv-loop μ-loop
-put-bytes-requires c κs = search needs
-
+-- src/lists.rt:58:1
 same-length : tie.Need-same-length Inv-loop μ-loop
-same-length c = search needs
+same-length c = ?
 
+-- src/lists.rt:58:1
 returns : tie.Need-returns Inv-loop μ-loop
-returns c = search needs
-
-same-length-2 : tie.Need-same-length-2 Inv-loop μ-loop
-same-length-2 c = search needs
-
-returns-2 : tie.Need-returns-2 Inv-loop μ-loop
-returns-2 c = search needs
+returns c = ?
 
 pub put-values-spec : {M : Type 1} → statement M
 put-values-spec =
@@ -62,17 +53,13 @@ put-values-spec =
     (tie.spec
     Inv-loop
     μ-loop
-    least-requires
     loop-holds
-    mul-put-next
-    array-copy-out-put-next
-    put-next-requires
+    mul-put-value
+    array-copy-out-put-value
+    put-value-requires
     add-k
     loop-less
     loop-again
-    slice-aggregate-put-bytes
-    put-bytes-requires
+    put-dash-requires
     same-length
-    returns
-    same-length-2
-    returns-2)
+    returns)
