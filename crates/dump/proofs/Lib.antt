@@ -1,2 +1,6 @@
 pub mod OneByOne
 pub mod Parts
+pub mod ValueTexts
+pub mod HeldSlots
+pub mod Processes
+pub mod Queued

@@ -37,6 +37,10 @@ no-dash (suc n) h = refl
 
 -- ---- the code
 
+-- the word in front
+abbrev pub codeWord : List ℕ
+codeWord = 99 ∷ 111 ∷ 100 ∷ 101 ∷ 32 ∷ []
+
 pub no-code : (code : List ℕ) → length code ≡ 0 → 45 ∷ [] ≡ codeText code
 unfolding codeText text
 no-code [] e = refl
@@ -69,9 +73,20 @@ environmentPart values = 32 ∷ 101 ∷ 110 ∷ 118 ∷ 32 ∷ values
 abbrev pub slotsWord : List ℕ
 slotsWord = 32 ∷ 115 ∷ 108 ∷ 111 ∷ 116 ∷ 115 ∷ 32 ∷ []
 
-pub registers-parts : (g : Process)
-    → decimal (g .place) ++ stackPart (valuesText (g .stack)) ++ environmentPart (valuesText (g .environment)) ++ slotsWord
-    ++ slotsText (g .slots) ++ 10 ∷ [] ≡ registersText g
+-- the line up to the stack, the environment, the last word, the slots
+abbrev pub throughStack : Process → List ℕ
+throughStack g = decimal (g .place) ++ stackPart (valuesText (g .stack))
+
+abbrev pub throughEnvironment : Process → List ℕ
+throughEnvironment g = throughStack g ++ environmentPart (valuesText (g .environment))
+
+abbrev pub throughWord : Process → List ℕ
+throughWord g = throughEnvironment g ++ slotsWord
+
+abbrev pub throughSlots : Process → List ℕ
+throughSlots g = throughWord g ++ slotsText (g .slots)
+
+pub registers-parts : (g : Process) → throughSlots g ++ 10 ∷ [] ≡ registersText g
 unfolding registersText text
 registers-parts g =
     let stack = sym (append-assoc (decimal (g .place)) (text " stack ") (valuesText (g .stack))) in
