@@ -4,3 +4,4 @@ pub mod ValueTexts
 pub mod HeldSlots
 pub mod Processes
 pub mod Queued
+pub mod Lengths
