@@ -7,20 +7,19 @@ use native.Mathlib.Nat.{mul-suc, le-of-suc-le-suc}
 use native.Mathlib.Omega.{arith}
 use lib.ListN.{length, getD, length-append, length-map}
 use lib.IntN.{pos}
-use Rattle.rules.specs.Limits.{codeLimit, recordCount, endCount, slotCount, stackDepth, queueDepth}
+use Rattle.rules.specs.Limits.{codeLimit, slotCount, stackDepth}
 use Rattle.rules.specs.State.{State, Value, Datum, value, handle, Last, split-item, close-item, wait-item}
 use Rattle.rules.specs.State.{EndState, free-end, used, Registers, RecordState, free-record, running, waiting}
 use Rattle.rules.specs.Sound.{ValueWithin, DatumWithin, RegistersWithin, RecordWithin, EndWithin, Sound}
 use Rattle.rules.specs.Text.{text, decimal, signedDecimal}
 use Rattle.rules.specs.Layout.{view}
 use Rattle.keeping.specs.Demand3.{SoundMemory}
-use Rattle.text.specs.Written.{hexText}
 use Rattle.text.proofs.Hex.{length-text}
 use Rattle.text.proofs.Shortness.{decimal-room, signed-short}
 use Rattle.dump.specs.Shown.{behindCommas, listText, byNumber, valuesText, slotText, slotTexts, slotsText, registersText, recordText}
 use Rattle.dump.specs.Shown.{datumText, lastText, lastTexts, queueTexts, endText, codeText, recordsText, endsText, stateText}
 use Rattle.dump.specs.Pieces.{itemTexts}
-use Rattle.dump.specs.Rooms.{numberRoom, signedRoom, valuesRoom, slotRoom, slotsRoom, recordRoom, itemRoom, queueRoom, endRoom, codeRoom, dumpRoom}
+use Rattle.dump.specs.Rooms.{numberRoom, signedRoom, valuesRoom, slotRoom, slotsRoom, recordRoom, itemRoom, endRoom, dumpRoom}
 use Rattle.dump.proofs.Parts.{stackPart, environmentPart, slotsWord, throughStack, throughEnvironment, throughWord, throughSlots}
 use Rattle.dump.proofs.Parts.{registers-parts}
 use Rattle.dump.proofs.Processes.{runningWord, waitingWord}
@@ -80,13 +79,10 @@ values-short : (vs : List Value) → ((i : ℕ) → ValueWithin (getD vs i (pos 
 values-short [] h = tt
 values-short (v ∷ vs) h = (signed-short v (record { sfits = h 0 }), values-short vs (λ i. h (suc i)))
 
-length-values : (vs : List Value) → length (map signedDecimal vs) ≡ length vs
-length-values vs = length-map vs signedDecimal
-
 values-room : (vs : List Value) → length vs ≤ stackDepth → ((i : ℕ) → ValueWithin (getD vs i (pos 0)))
     → length (valuesText vs) ≤ valuesRoom
 unfolding valuesText
-values-room vs l h = list-short signedRoom 15 (map signedDecimal vs) (values-short vs h) (omega (arith, l, length-values vs))
+values-room vs l h = list-short signedRoom 15 (map signedDecimal vs) (values-short vs h) (omega (arith, l, length-map vs signedDecimal))
 
 slot-room : (c e : ℕ) → length (slotText c e) ≤ slotRoom
 unfolding slotText text

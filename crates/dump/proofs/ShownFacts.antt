@@ -2,7 +2,7 @@
 -- Assumes nothing.
 use mathlib.Core.Path.{_≡_, refl}
 use mathlib.Core.Option.{none, some}
-use mathlib.Core.List.{[], _∷_}
+use mathlib.Core.List.{[], _∷_, _++_}
 use lib.IntN.{pos, negsuc}
 use Rattle.rules.specs.State.{value, handle, split-item, used, registers, waiting, start}
 use Rattle.rules.specs.Run.{steps, reachedBy}
@@ -23,8 +23,10 @@ unfolding computing endText listText behindCommas queueTexts datumText lastText 
 end-is = refl
 
 pub four-steps : stateText (reachedBy (start code) (steps 4 (start code) 0))
-    ≡ text
-    "code 14000000080000110100000004100016001100031600\nR0 running 15 stack - env - slots 0:0\nR1 waiting 17 stack - env - slots 0:1\nE0 partner 1 queue v4\nE1 partner 0 queue w1\nend\n"
+    ≡ text "code 14000000080000110100000004100016001100031600\n"
+    ++ text "R0 running 15 stack - env - slots 0:0\n"
+    ++ text "R1 waiting 17 stack - env - slots 0:1\n"
+    ++ text "E0 partner 1 queue v4\nE1 partner 0 queue w1\nend\n"
 unfolding computing hexDigit hexByte hexText stateText codeText recordsText endsText byNumber recordText registersText valuesText
     listText behindCommas slotsText slotTexts slotText endText queueTexts datumText lastText lastTexts
 four-steps = refl

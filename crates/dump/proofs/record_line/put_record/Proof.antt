@@ -1,5 +1,5 @@
 -- One case for each status. Assumes nothing.
-use mathlib.Core.Path.{_≡_, sym, _∙_}
+use mathlib.Core.Path.{sym, _∙_}
 use Rattle.rules.specs.State.{recordAt}
 use Rattle.rules.specs.Layout.{view}
 use Rattle.stepping.proofs.Steps.{memory-sized}
