@@ -20,11 +20,13 @@ use Rattle.dump.proofs.OneByOne.{soFar, thing-room, thing-more, dash-ro
 abbrev pub slotsFront : (slots : List ℕ) (c : ℕ) → List (List ℕ)
 slotsFront slots c = byNumber slotTexts 0 (take c (map viewOptional slots))
 
+-- the buffer holds the texts of the first c slots, so many of which are shown
 pub record SlotsSoFar (out₀ : List ℕ) (at : ℕ) (slots out : List ℕ) (next shown c : ℕ) : Type 0 where
   pub written : Written out₀ at (soFar (slotsFront slots c)) out next
   pub count : length (slotsFront slots c) ≡ shown
   pub few : shown ≤ c
 
+-- before the first slot
 pub no-slots : (out : List ℕ) (at : ℕ) (slots : List ℕ) → SlotsSoFar out at slots out at 0 0
 unfolding soFar byNumber
 no-slots out at slots = record { written = written-none out at; count = refl; few = omega arith }
@@ -75,6 +77,7 @@ module _ {out₀ out : List ℕ} {at next shown : ℕ} (slots : List ℕ) (c : �
 
   -- a slot that holds an end
   module _ (held : getD slots c 0 ≡ 0 → ⊥) where
+    -- its text
     this : List ℕ
     this = slotText c (getD slots c 0 - 1)
 

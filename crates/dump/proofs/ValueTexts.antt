@@ -8,6 +8,7 @@ use lib.IntN.{pos}
 use Rattle.rules.specs.State.{Value}
 use Rattle.rules.specs.Text.{signedDecimal}
 
+-- the texts of the first values
 abbrev pub valueTexts : (count : ℕ) → List Value → List (List ℕ)
 valueTexts count values = map signedDecimal (take count values)
 

@@ -13,7 +13,8 @@ use Rattle.dump.proofs.put_code.Statement.{statement}
 use Rattle.dump.proofs.put_code.Tie as tie
 
 -- room for all, and for the first two parts
-whole : (s : tie.Start) → let a = s .args in a .at + length (codeWord ++ codeText (view (a .m .now) .code) ++ 10 ∷ []) ≤ length (a .out .now)
+whole : (s : tie.Start)
+    → let a = s .args in a .at + length (codeWord ++ codeText (view (a .m .now) .code) ++ 10 ∷ []) ≤ length (a .out .now)
 unfolding text
 whole s = s .pre .1
 

@@ -45,7 +45,8 @@ put-code-requires c κs =
     let a = at-start .args in
     let m = a .m .now in
     let s = at-start .pre .0 in
-    ((memory-length m s, s), room-first (a .at) (throughCode (view m)) (recordsText (view m .records)) (a .out .now) (records-room at-start))
+    let lines = recordsText (view m .records) in
+    ((memory-length m s, s), room-first (a .at) (throughCode (view m)) lines (a .out .now) (records-room at-start))
 
 put-records-requires : tie.Need-put-records-requires
 put-records-requires c κs =

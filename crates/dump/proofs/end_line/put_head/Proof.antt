@@ -46,7 +46,8 @@ put-bytes-requires : tie.Need-put-bytes-requires
 put-bytes-requires c κs =
     let at-partner = c .before .before .before .before in
     let at-end = at-partner .before .before .before .before .before .before in
-    room-rest queueWord (whole (at-end .before .before .before .before)) (written-more (at-end .put-named .ensures) (at-partner .put-named2 .ensures))
+    let written = written-more (at-end .put-named .ensures) (at-partner .put-named2 .ensures) in
+    room-rest queueWord (whole (at-end .before .before .before .before)) written
 
 same-length : tie.Need-same-length
 same-length c = search needs

@@ -45,7 +45,9 @@ returns c =
     item-there x (at-start .args .k) (at-start .pre .1 .0) (ap headIn (sym (c .enum-told .given .1)) ∙ found)
 
 -- what is found is what is shown
-item-is : (c : tie.After-item) → let a = c .before .before .before .before .before .args in itemText (itemOf (c .item .given .0 .0)) ≡ getD (itemTexts (endAt (view (a .m .now)) (a .e))) (a .k) []
+item-is : (c : tie.After-item)
+    → let a = c .before .before .before .before .before .args in
+    itemText (itemOf (c .item .given .0 .0)) ≡ getD (itemTexts (endAt (view (a .m .now)) (a .e))) (a .k) []
 item-is c =
     let at-item-at = c .before .before in
     let at-start = at-item-at .before .before .before in
@@ -59,7 +61,8 @@ put-comma-requires : tie.Need-put-comma-requires
 put-comma-requires c κs =
     let at-start = c .before .before .before .before .before .before .before in
     let a = at-start .args in
-    room-first (a .at) (commaBehind (a .k)) (getD (itemTexts (endAt (view (a .m .now)) (a .e))) (a .k) []) (a .out .now) (at-start .pre .1 .1)
+    let item = getD (itemTexts (endAt (view (a .m .now)) (a .e))) (a .k) [] in
+    room-first (a .at) (commaBehind (a .k)) item (a .out .now) (at-start .pre .1 .1)
 
 put-item-requires : tie.Need-put-item-requires
 put-item-requires c κs =

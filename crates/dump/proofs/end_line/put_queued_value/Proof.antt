@@ -35,8 +35,8 @@ unfolding text
 returns c =
     let at-value = c .before .before in
     let at-letter = at-value .before .before .before .before in
-    let value = written-as (ap signedDecimal (toZ-ofZ (at-letter .before .before .before .before .fits .v))) (at-value .put-signed .ensures) in
-    written-more (at-letter .put-bytes .ensures) value
+    let same = ap signedDecimal (toZ-ofZ (at-letter .before .before .before .before .fits .v)) in
+    written-more (at-letter .put-bytes .ensures) (written-as same (at-value .put-signed .ensures))
 
 pub put-queued-value-spec : {M : Type 1} → statement M
 put-queued-value-spec =

@@ -85,7 +85,8 @@ returns c =
     let at-loop = at-dash .before .before .before in
     let s = at-loop .before .before in
     let l = at-loop .loop in
-    slots-done (s .args .t3) (l .c) (l .inv .2) (omega (arith, eight s, at-dash .before .before .loop-test .left)) (at-dash .put-dash .ensures)
+    let all : length (s .args .t3) ≤ l .c = omega (arith, eight s, at-dash .before .before .loop-test .left) in
+    slots-done (s .args .t3) (l .c) (l .inv .2) all (at-dash .put-dash .ensures)
 
 pub put-slots-spec : {M : Type 1} → statement M
 put-slots-spec =

@@ -1,7 +1,8 @@
 -- One case for each status. Assumes nothing.
-use mathlib.Core.Path.{sym, _∙_}
+use mathlib.Core.Path.{_≡_, sym, _∙_}
 use Rattle.rules.specs.State.{recordAt}
 use Rattle.rules.specs.Layout.{view}
+use Rattle.registers.specs.Registers.{statusOf}
 use Rattle.stepping.proofs.Steps.{memory-sized}
 use Rattle.text.proofs.Texts.{written-as, room-as}
 use Rattle.dump.proofs.Parts.{written-none}
@@ -15,6 +16,15 @@ load-requires c κs = search needs
 
 status-of-requires : tie.Need-status-of-requires
 status-of-requires c κs = search needs
+
+-- what the record is
+status-is : (c : tie.After-status-of)
+    → let a = c .before .before .before .before .args in c .status-of .result ≡ statusOf (recordAt (view (a .m .now)) (a .r))
+status-is c =
+    let at-start = c .before .before .before .before in
+    let m = at-start .args .m .now in
+    let s = at-start .pre .0 .2 in
+    c .status-of .ensures (view m) (memory-sized m s) (s .laid-out)
 
 enum-told : tie.Need-enum-told
 enum-told c = search needs
@@ -34,7 +44,7 @@ put-line-requires c κs =
     let m = a .m .now in
     let s = at-start .pre .0 .2 in
     let loads = at-load .load .ensures in
-    let status = sym (at-told .enum-told2 .given .1) ∙ at-told .before .before .status-of .ensures (view m) (memory-sized m s) (s .laid-out) in
+    let status = sym (at-told .enum-told2 .given .1) ∙ status-is (at-told .before .before) in
     let line = running-line (a .r) (recordAt (view m) (a .r)) (process-is m s (a .r) loads) status in
     (counts-within m s (a .r) loads, room-as (a .at) _ _ (a .out .now) line (at-start .pre .1))
 
@@ -53,7 +63,7 @@ put-line-requires-2 c κs =
     let m = a .m .now in
     let s = at-start .pre .0 .2 in
     let loads = at-load .load .ensures in
-    let status = sym (at-told .enum-told3 .given .1) ∙ at-told .before .before .status-of .ensures (view m) (memory-sized m s) (s .laid-out) in
+    let status = sym (at-told .enum-told3 .given .1) ∙ status-is (at-told .before .before) in
     let line = waiting-line (a .r) (recordAt (view m) (a .r)) (process-is m s (a .r) loads) status in
     (counts-within m s (a .r) loads, room-as (a .at) _ _ (a .out .now) line (at-start .pre .1))
 
@@ -63,8 +73,7 @@ returns c =
     let at-start = at-status .before .before .before .before in
     let a = at-start .args in
     let m = a .m .now in
-    let s = at-start .pre .0 .2 in
-    let status = sym (c .enum-told .given .1) ∙ at-status .status-of .ensures (view m) (memory-sized m s) (s .laid-out) in
+    let status = sym (c .enum-told .given .1) ∙ status-is at-status in
     written-as (free-line (a .r) (recordAt (view m) (a .r)) status) (written-none (a .out .now) (a .at))
 
 same-length : tie.Need-same-length
@@ -79,7 +88,7 @@ returns-2 c =
     let a = at-start .args in
     let m = a .m .now in
     let s = at-start .pre .0 .2 in
-    let status = sym (at-told .enum-told2 .given .1) ∙ at-told .before .before .status-of .ensures (view m) (memory-sized m s) (s .laid-out) in
+    let status = sym (at-told .enum-told2 .given .1) ∙ status-is (at-told .before .before) in
     let process = process-is m s (a .r) (at-load .load .ensures) in
     written-as (running-line (a .r) (recordAt (view m) (a .r)) process status) (at-put .put-line .ensures)
 
@@ -95,7 +104,7 @@ returns-3 c =
     let a = at-start .args in
     let m = a .m .now in
     let s = at-start .pre .0 .2 in
-    let status = sym (at-told .enum-told3 .given .1) ∙ at-told .before .before .status-of .ensures (view m) (memory-sized m s) (s .laid-out) in
+    let status = sym (at-told .enum-told3 .given .1) ∙ status-is (at-told .before .before) in
     let process = process-is m s (a .r) (at-load .load .ensures) in
     written-as (waiting-line (a .r) (recordAt (view m) (a .r)) process status) (at-put .put-line2 .ensures)
 

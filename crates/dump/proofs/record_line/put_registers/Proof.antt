@@ -75,7 +75,8 @@ put-bytes-requires c κs =
     let at-stack = at-environment .before .before .before .before .before in
     let at-place = at-stack .before .before .before .before .before in
     let first = written-more (at-place .put-decimal .ensures) (at-stack .put-named-values .ensures) in
-    room-rest slotsWord (word-room (at-place .before .before .before .before .before .before .before)) (written-more first (at-environment .put-named-values2 .ensures))
+    let written = written-more first (at-environment .put-named-values2 .ensures) in
+    room-rest slotsWord (word-room (at-place .before .before .before .before .before .before .before)) written
 
 put-slots-requires : tie.Need-put-slots-requires
 put-slots-requires c κs =
@@ -100,7 +101,8 @@ put-bytes-requires-2 c κs =
     let at-place = at-stack .before .before .before .before .before in
     let first = written-more (at-place .put-decimal .ensures) (at-stack .put-named-values .ensures) in
     let written = written-more (written-more first (at-environment .put-named-values2 .ensures)) (at-word .put-bytes .ensures) in
-    room-rest (10 ∷ []) (whole (at-place .before .before .before .before .before .before .before)) (written-more written (at-slots .put-slots .ensures))
+    let line = written-more written (at-slots .put-slots .ensures) in
+    room-rest (10 ∷ []) (whole (at-place .before .before .before .before .before .before .before)) line
 
 same-length : tie.Need-same-length
 same-length c = search needs
