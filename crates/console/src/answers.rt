@@ -7,7 +7,6 @@ ghost use Rattle.rules.specs.Layout.{stateSize};
 ghost use Rattle.console.specs.Sizes.{byteSize, outputSize};
 use commands::Command;
 use commands::LINE_LIMIT;
-use dump::put_number;
 use machine::FreeEnds;
 use rules::Reply;
 use rules::UNSOUND;
@@ -16,7 +15,16 @@ use runner::Ran;
 use runner::Verdict;
 use text::length_before;
 use text::put_bytes;
+use text::put_decimal;
 use text::put_hex;
+
+// A number.
+fn put_number(out: &mut [u8], at: usize, n: u64) -> usize
+    requires { ⌜ at + 20 ≤ length (now out) ⌝ }
+    ensures { λ r. ⌜ r ≤ at + 20 ⌝ }
+{
+    put_decimal(out, at, n)
+}
 
 // A number, and the line's end.
 fn put_last(out: &mut [u8], at: usize, n: u64) -> usize

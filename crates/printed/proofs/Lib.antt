@@ -1,7 +1,7 @@
 pub mod Telling
 pub mod Asking
 pub mod Going
-pub mod Rooms
+pub mod LineBytes
 pub mod Lengths
 pub mod RunLines
 pub mod Whole

@@ -1,4 +1,4 @@
--- What was printed is read back: a number in decimal, bytes in hex. And how long a printed number can be. Assumes nothing.
+-- What was printed is read back: a number in decimal, bytes in hex. Assumes nothing.
 use mathlib.Core.Path.{_≡_, refl, sym, ap, _∙_}
 use mathlib.Core.List.{List, [], _∷_}
 use mathlib.Core.Bool.{true}
@@ -8,17 +8,13 @@ use native.Mathlib.Decide.{decLe}
 use native.Mathlib.Omega.{arith}
 use borrow.Author.Tests.{lt-ltb, le-ltb, le-leb}
 use lib.ListN.{length}
-use lib.IntN.{ℤ, pos, negsuc}
-use mir.Syntax.{w32}
-use mir.Val.{SFits}
 use Rattle.rules.specs.Bytes.{flat}
-use Rattle.rules.specs.Text.{digitsBefore, decimal, signedDecimal}
+use Rattle.rules.specs.Text.{digitsBefore, decimal}
 use Rattle.words.specs.Parts.{Bytes}
 use Rattle.text.specs.Written.{hexDigit, hexByte, hexText}
 use Rattle.text.specs.Digits.{digitValue, allDigits, valueBehind, numberIn, isHex, hexBytes}
 use Rattle.text.proofs.Decimals.{digitsLeft, digits-first, digits-next, less-left}
 use Rattle.text.proofs.Hex.{length-text, hex-is}
-use Rattle.text.proofs.Texts.{sign-text}
 
 -- ---- one digit
 
@@ -83,18 +79,7 @@ left-digits (suc most) (suc k) low =
     ∙ left-digits most (suc k / 10) ((48 + suc k % 10) ∷ low)
     ∙ digit-passed (suc k) low
 
--- how many they are
-left-length : (most rest : ℕ) (low : List ℕ) (k : ℕ) → rest < 10 ^ k → length (digitsLeft most rest low) ≤ k + length low
-unfolding digitsLeft digitsBefore
-left-length zero zero low k h = omega arith
-left-length (suc most) zero low k h = omega arith
-left-length zero (suc r) low k h = omega arith
-left-length (suc most) (suc r) low zero h = absurd (omega arith)
-left-length (suc most) (suc r) low (suc k) h =
-    let e = ap length (digits-next most (suc r) low (omega arith)) in
-    let l = left-length most (suc r / 10) ((48 + suc r % 10) ∷ low) k (less-left k (suc r) h) in
-    omega arith
-
+-- there are some
 left-some : (most rest : ℕ) (low : List ℕ) → length low ≤ length (digitsLeft most rest low)
 unfolding digitsLeft digitsBefore
 left-some zero zero low = omega arith
@@ -104,21 +89,6 @@ left-some (suc most) (suc r) low =
     let e = ap length (digits-next most (suc r) low (omega arith)) in
     let l = left-some most (suc r / 10) ((48 + suc r % 10) ∷ low) in
     omega arith
-
--- a number below a power of ten has so many digits at most
-pub decimal-length : (k n : ℕ) → n < 10 ^ suc k → length (decimal n) ≤ suc k
-decimal-length k n h =
-    let e = ap length (digits-first n) in
-    let l = left-length 19 (n / 10) ((48 + n % 10) ∷ []) k (less-left k n h) in
-    omega arith
-
-pub signed-length : (n : ℤ) → SFits w32 n → length (signedDecimal n) ≤ 11
-unfolding signedDecimal
-signed-length (pos n) f = let small = f .sfits in let l = decimal-length 9 n (omega arith) in omega arith
-signed-length (negsuc n) f =
-    let small = f .sfits in
-    let l = decimal-length 9 (suc n) (omega arith) in
-    rw sign-text (omega arith)
 
 last-digit : (n : ℕ) → allDigits 10 ((48 + n % 10) ∷ []) ≡ true
 unfolding allDigits
