@@ -1,0 +1,95 @@
+-- What the answers of the machine, the runner and the writer stand for in the answer's text. Assumes nothing.
+use mathlib.Core.Path.{_≡_, refl, sym, ap, _∙_}
+use mathlib.Core.List.{List, _++_}
+use Prim.Native.Nat.{ℕ, _*_, _≤_}
+use native.Mathlib.Omega.{arith}
+use lib.ListN.{length, take, drop}
+use lib.Seq.{take-at}
+use borrow.Author.Tests.{ltb-false}
+use Rattle.rules.specs.Limits.{codeLimit}
+use Rattle.rules.specs.Bytes.{pad}
+use Rattle.rules.specs.Refusal.{Answer, refused, done}
+use Rattle.rules.specs.Run as run
+use Rattle.rules.specs.Image.{blockSize, dataSize, blockCount, headed, imageOf, writeCauses, written}
+use Rattle.rules.specs.Calls.{write, writeAnswer, outputOr, FreeEnds}
+use Rattle.rules.specs.Numbers.{replyTo}
+use Rattle.rules.specs.Text.{text}
+use Rattle.rules.specs.declared.Reply.{Reply}
+use Rattle.rules.specs.declared.Reply.the-variants.{Done, Refused}
+use Rattle.rules.proofs.Rows.{all-passed}
+use Rattle.words.proofs.Pads.{length-pad}
+use Rattle.image.proofs.Writes.{length-blocks}
+use Rattle.runner.specs.declared.verdict.Verdict.{Verdict}
+use Rattle.runner.specs.declared.verdict.Verdict.the-variants.{Spent}
+use Rattle.runner.specs.declared.running.Ran.{Ran}
+use Rattle.runner.specs.declared.running.Ran.the-variants as ran
+use Rattle.runner.specs.Runs.{verdictCode, ranReply}
+use Rattle.printed.specs.Meaning.{verdictIn}
+use Rattle.answers.specs.Answers.{numberLine, hexLine, imageRoom, writtenText, writeText, madeText, ranText}
+
+-- ---- a run
+
+-- 1 where it was made, its number, and what was made
+abbrev isMade : Ran → ℕ
+isMade (ran.Made steps next v) = 1
+isMade (ran.Refused n) = 0
+
+abbrev numberIn : Ran → ℕ
+numberIn (ran.Made steps next v) = 0
+numberIn (ran.Refused n) = n
+
+abbrev textIn : Ran → List ℕ
+textIn (ran.Made steps next v) = madeText steps next (verdictIn v)
+textIn (ran.Refused n) = numberLine (text "run: ") n
+
+-- the word of a verdict of the code is that of the verdict
+named-back : (v : run.Verdict) → verdictIn (verdictCode v) ≡ v
+named-back run.spent = refl
+named-back run.finished = refl
+named-back run.stuck = refl
+
+reply-text : (a : Answer run.Ran) → textIn (ranReply a) ≡ ranText a
+reply-text (refused n) = refl
+reply-text (done x) = ap (λ (v : run.Verdict). madeText (x .made) (x .next) v) (named-back (x .verdict))
+
+-- what is printed for the code's answer is what is said of the run
+pub run-text : (a : Answer run.Ran) {given shown : Ran} → given ≡ shown → given ≡ ranReply a → textIn shown ≡ ranText a
+run-text a {given} {shown} is e = ap textIn (sym is ∙ e) ∙ reply-text a
+
+-- ---- a write
+
+-- 1 for a refusal, and its number
+abbrev isRefused : Reply → ℕ
+isRefused Done = 0
+isRefused (Refused n) = 1
+
+abbrev refusalOf : Reply → ℕ
+refusalOf Done = 0
+refusalOf (Refused n) = n
+
+-- refused: the number
+pub write-refused : (code : List ℕ) (a : Answer (List ℕ)) (n : ℕ) → Refused n ≡ replyTo a → numberLine (text "write ") n ≡ writtenText code a
+write-refused code (refused k) n e = ap (λ (j : ℕ). numberLine (text "write ") j) (ap refusalOf e)
+write-refused code (done x) n e = absurd (omega (arith, ap isRefused e))
+
+-- an image is as long as its blocks
+pub image-length : (code : List ℕ) → length (imageOf code) ≡ blockSize * blockCount (length code)
+unfolding imageOf
+image-length code =
+    let n : ℕ = blockCount (length code) in
+    let size = length-pad (dataSize * n) 0 (headed code) in
+    length-blocks n (pad (dataSize * n) 0 (headed code)) (omega arith)
+
+-- at most sixteen of them
+pub image-short : (code : List ℕ) → length code ≤ codeLimit → blockSize * blockCount (length code) ≤ 8192
+unfolding blockCount
+image-short code h = omega arith
+
+-- done: the code is no longer than a code may be, and the image stands in front of the room
+pub write-done : (code room : List ℕ) (a : Answer (List ℕ)) → writeAnswer code room ≡ a → Done ≡ replyTo a
+    → (length code ≤ codeLimit) × (a ≡ done (written code room))
+unfolding writeAnswer writeCauses
+write-done code room (refused n) is e = absurd (omega (arith, ap isRefused e))
+write-done code room (done x) is e =
+    let passed = all-passed (writeCauses code room) (done (written code room)) x is in
+    (ltb-false codeLimit (length code) (passed .0 .1 .0), sym (passed .1))

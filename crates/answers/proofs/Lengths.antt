@@ -1,0 +1,121 @@
+-- Every answer fits the output buffer. Assumes nothing.
+use mathlib.Core.Path.{_≡_, refl, sym, ap, _∙_, subst}
+use mathlib.Core.Bool.{Bool, true, false}
+use mathlib.Core.List.{List, [], _∷_, _++_}
+use Prim.Native.Nat.{ℕ, zero, suc, _+_, _*_, _/_, _%_, _≤_, min}
+use native.Mathlib.Omega.{arith}
+use lib.ListN.{length, take, drop, length-append, length-take}
+use lib.Dec.{leb}
+use borrow.Author.Tests.{leb-true}
+use Rattle.rules.specs.State.{State}
+use Rattle.rules.specs.Refusal.{Answer, refused, done}
+use Rattle.rules.specs.Run.{Verdict, spent, finished, stuck, Ran}
+use Rattle.rules.specs.Image.{imageOf}
+use Rattle.rules.specs.Layout.{stateSize, view}
+use Rattle.rules.specs.Calls as calls
+use Rattle.rules.specs.Calls.{writeAnswer, callRecord, callEnd, FreeEnds, callFreeEnds, runAnswer}
+use Rattle.rules.specs.Text.{text, digitsBefore, decimal}
+use Rattle.rules.specs.Printed.{verdictText}
+use Rattle.commands.specs.Asked.{Asked, unknown, free, dump, load, write, record-step, end-step, run, peek, poke}
+use Rattle.commands.specs.Asked.{lineLimit, firstWord, when}
+use Rattle.answers.specs.Sizes.{outputSize}
+use Rattle.answers.specs.Answers.{numberLine, hexLine, loadText, imageRoom, writtenText, writeText, stepText, recordText, endText}
+use Rattle.answers.specs.Answers.{madeText, ranText, runText, freeEndsText, freeText, peekText, pokeText, answerText}
+use Rattle.answers.proofs.Texts.{number-length, hex-length, verdict-length, step-length, made-length, counted-length, unknown-length}
+use Rattle.answers.proofs.Cases.{image-length, image-short, write-done}
+
+-- ---- a number has at most twenty digits
+
+digits-most : (most n : ℕ) (low : List ℕ) → length (digitsBefore most n low) ≤ most + length low
+unfolding digitsBefore
+digits-most zero n low = omega arith
+digits-most (suc most) n low = go (n / 10)
+  where
+    go : (k : ℕ)
+        → length (elim k [ zero ↦ (48 + n % 10) ∷ low | suc j ↦ digitsBefore most (n / 10) ((48 + n % 10) ∷ low) ]) ≤ suc most + length low
+    go zero = omega arith
+    go (suc j) = let more = digits-most most (n / 10) ((48 + n % 10) ∷ low) in omega arith
+
+decimal-most : (n : ℕ) → length (decimal n) ≤ 20
+unfolding decimal
+decimal-most n = omega (arith, digits-most 20 n [])
+
+number-most : (word : List ℕ) (n : ℕ) → length (numberLine word n) ≤ length word + 21
+number-most word n = omega (arith, number-length word n, decimal-most n)
+
+-- ---- the requests
+
+step-most : (name : List ℕ) (n number : ℕ) → length (stepText name n number) ≤ length name + 43
+unfolding text
+step-most name n number =
+    omega (arith, step-length name n number, decimal-most n, number-most (text ": ") number)
+
+written-most : (code : List ℕ) (a : Answer (List ℕ)) → writeAnswer code imageRoom ≡ a → length (writtenText code a) ≤ outputSize
+unfolding text
+written-most code (refused n) is = omega (arith, number-most (text "write ") n)
+written-most code (done x) is =
+    let short = write-done code imageRoom (done x) is refl .0 in
+    omega (
+      arith,
+      length-append (numberLine (text "write ") 0) (hexLine (imageOf code)),
+      number-most (text "write ") 0,
+      hex-length (imageOf code),
+      image-length code,
+      image-short code short,
+    )
+
+verdict-most : (v : Verdict) → length (verdictText v) ≤ 8
+unfolding verdictText text
+verdict-most spent = omega arith
+verdict-most finished = omega arith
+verdict-most stuck = omega arith
+
+ran-most : (a : Answer Ran) → length (ranText a) ≤ outputSize
+unfolding text
+ran-most (refused n) = omega (arith, number-most (text "run: ") n)
+ran-most (done x) =
+    omega (
+      arith,
+      made-length (x .made) (x .next) (x .verdict),
+      decimal-most (x .made),
+      decimal-most (x .next),
+      verdict-length (x .verdict),
+      verdict-most (x .verdict),
+    )
+
+free-most : (a : Answer FreeEnds) → length (freeEndsText a) ≤ outputSize
+unfolding text
+free-most (refused n) = omega (arith, number-most (text "free: refused ") n)
+free-most (done x) =
+    omega (arith, counted-length (x .count) (x .lowest), decimal-most (x .count), number-most (text " ") (x .lowest))
+
+-- ---- the bench
+
+peek-most : (state : List ℕ) (at count : ℕ) → length state ≡ stateSize → (b : Bool) → leb (at + count) (length state) ≡ b
+    → length (when b (hexLine (take count (drop at state))) (text "peek: out of range\n")) ≤ outputSize
+unfolding text
+peek-most state at count size true is =
+    let within = leb-true (at + count) (length state) is in
+    omega (arith, hex-length (take count (drop at state)), length-take count (drop at state))
+peek-most state at count size false is = omega arith
+
+poke-most : (b : Bool) → length (when b (text "poke: ok\n") (text "poke: out of range\n")) ≤ outputSize
+unfolding text
+poke-most true = omega arith
+poke-most false = omega arith
+
+-- ---- every answer
+
+pub answer-short : (line state : List ℕ) (a : Asked) → length state ≡ stateSize → length (answerText line state a) ≤ outputSize
+unfolding loadText writeText recordText endText runText freeText peekText pokeText text
+answer-short line state unknown size =
+    omega (arith, unknown-length line, length-take lineLimit (firstWord line))
+answer-short line state (load image) size = omega (arith, number-most (text "load ") (calls.load state image .number))
+answer-short line state (write code) size = written-most code (writeAnswer code imageRoom) refl
+answer-short line state (record-step n) size = omega (arith, step-most (text "R ") n (callRecord state n .number))
+answer-short line state (end-step n) size = omega (arith, step-most (text "E ") n (callEnd state n .number))
+answer-short line state (run budget start) size = ran-most (runAnswer state budget start)
+answer-short line state free size = free-most (callFreeEnds state)
+answer-short line state dump size = ?
+answer-short line state (peek at count) size = peek-most state at count size (leb (at + count) (length state)) refl
+answer-short line state (poke at bytes) size = poke-most (leb (at + length bytes) (length state))
