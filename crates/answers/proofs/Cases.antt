@@ -1,11 +1,11 @@
 -- What the answers of the machine, the runner and the writer stand for in the answer's text. Assumes nothing.
 use mathlib.Core.Path.{_≡_, refl, sym, ap, _∙_}
 use mathlib.Core.List.{List, _++_}
-use Prim.Native.Nat.{ℕ, _*_, _≤_}
+use Prim.Native.Nat.{ℕ, _+_, _-_, _*_, _≤_, _<_}
 use native.Mathlib.Omega.{arith}
 use lib.ListN.{length, take, drop}
 use lib.Seq.{take-at}
-use borrow.Author.Tests.{ltb-false}
+use borrow.Author.Tests.{ltb-false, le-leb, lt-leb}
 use Rattle.rules.specs.Limits.{codeLimit}
 use Rattle.rules.specs.Bytes.{pad}
 use Rattle.rules.specs.Refusal.{Answer, refused, done}
@@ -17,6 +17,7 @@ use Rattle.rules.specs.Text.{text}
 use Rattle.rules.specs.declared.Reply.{Reply}
 use Rattle.rules.specs.declared.Reply.the-variants.{Done, Refused}
 use Rattle.rules.proofs.Rows.{all-passed}
+use Rattle.words.specs.Parts.{putAt}
 use Rattle.words.proofs.Pads.{length-pad}
 use Rattle.image.proofs.Writes.{length-blocks}
 use Rattle.runner.specs.declared.verdict.Verdict.{Verdict}
@@ -25,7 +26,7 @@ use Rattle.runner.specs.declared.running.Ran.{Ran}
 use Rattle.runner.specs.declared.running.Ran.the-variants as ran
 use Rattle.runner.specs.Runs.{verdictCode, ranReply}
 use Rattle.printed.specs.Meaning.{verdictIn}
-use Rattle.answers.specs.Answers.{numberLine, hexLine, imageRoom, writtenText, writeText, madeText, ranText}
+use Rattle.answers.specs.Answers.{numberLine, hexLine, writtenText, madeText, ranText, peekText, pokeText, poked}
 
 -- ---- a run
 
@@ -93,3 +94,31 @@ write-done code room (refused n) is e = absurd (omega (arith, ap isRefused e))
 write-done code room (done x) is e =
     let passed = all-passed (writeCauses code room) (done (written code room)) x is in
     (ltb-false codeLimit (length code) (passed .0 .1 .0), sym (passed .1))
+
+-- ---- the bench
+
+-- bytes that do not all lie within the memory, and such as do
+pub peek-outside : (state : List ℕ) (at count : ℕ) → length state < at + count → text "peek: out of range\n" ≡ peekText state at count
+unfolding peekText
+peek-outside state at count h = rw (lt-leb (at + count) (length state) h) refl
+
+pub peek-inside : (state : List ℕ) (at count : ℕ) → at + count ≤ length state
+    → hexLine (take (at + count - at) (drop at state)) ≡ peekText state at count
+unfolding peekText
+peek-inside state at count h =
+    let e : at + count - at ≡ count = omega arith in
+    rw (e, le-leb (at + count) (length state) h) refl
+
+pub poke-outside : (state : List ℕ) (at : ℕ) (bytes : List ℕ) → length state < at + length bytes
+    → (text "poke: out of range\n" ≡ pokeText state at bytes) × (state ≡ poked state at bytes)
+unfolding pokeText poked
+poke-outside state at bytes h =
+    let e = lt-leb (at + length bytes) (length state) h in
+    (rw e refl, rw e refl)
+
+pub poke-inside : (state : List ℕ) (at : ℕ) (bytes : List ℕ) → at + length bytes ≤ length state
+    → (text "poke: ok\n" ≡ pokeText state at bytes) × (putAt state at bytes ≡ poked state at bytes)
+unfolding pokeText poked
+poke-inside state at bytes h =
+    let e = le-leb (at + length bytes) (length state) h in
+    (rw e refl, rw e refl)

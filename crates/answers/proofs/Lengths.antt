@@ -29,12 +29,12 @@ use Rattle.answers.proofs.Cases.{image-length, image-short, write-done}
 digits-most : (most n : ℕ) (low : List ℕ) → length (digitsBefore most n low) ≤ most + length low
 unfolding digitsBefore
 digits-most zero n low = omega arith
-digits-most (suc most) n low = go (n / 10)
+digits-most (suc most) n low = go (n / 10) (digits-most most (n / 10) ((48 + n % 10) ∷ low))
   where
-    go : (k : ℕ)
-        → length (elim k [ zero ↦ (48 + n % 10) ∷ low | suc j ↦ digitsBefore most (n / 10) ((48 + n % 10) ∷ low) ]) ≤ suc most + length low
-    go zero = omega arith
-    go (suc j) = let more = digits-most most (n / 10) ((48 + n % 10) ∷ low) in omega arith
+    go : (k : ℕ) → length (digitsBefore most (n / 10) ((48 + n % 10) ∷ low)) ≤ most + suc (length low)
+        → length {A = ℕ} (elim k [ zero ↦ (48 + n % 10) ∷ low | suc j ↦ digitsBefore most (n / 10) ((48 + n % 10) ∷ low) ]) ≤ suc most + length low
+    go zero more = omega arith
+    go (suc j) more = omega arith
 
 decimal-most : (n : ℕ) → length (decimal n) ≤ 20
 unfolding decimal

@@ -81,8 +81,11 @@ pub unknown-text : (line : List ℕ) → text "? " ++ (take lineLimit (firstWord
 unfolding unknownText
 unknown-text line = sym (append-assoc (text "? ") (take lineLimit (firstWord line)) (text "\n"))
 
+-- a word with what stands around it
+around : (word : List ℕ) → length (text "? " ++ word ++ text "\n") ≡ length word + 3
+unfolding text
+around word = omega (arith, length-append (text "? " ++ word) (text "\n"), length-append (text "? ") word)
+
 pub unknown-length : (line : List ℕ) → length (unknownText line) ≡ length (take lineLimit (firstWord line)) + 3
-unfolding unknownText text
-unknown-length line =
-    let word : List ℕ = take lineLimit (firstWord line) in
-    omega (arith, length-append (text "? " ++ word) (text "\n"), length-append (text "? ") word)
+unfolding unknownText
+unknown-length line = around (take lineLimit (firstWord line))

@@ -1,54 +1,69 @@
+-- The bytes written where they lie within the memory. Assumes nothing.
+use mathlib.Core.Path.{ap, _∙_}
+use native.Mathlib.Omega.{arith}
+use lib.ListN.{length}
 use borrow.Author.Needs.{needs}
+use Rattle.rules.specs.Text.{text}
+use Rattle.text.proofs.Texts.{written-as}
+use Rattle.answers.proofs.Cases.{poke-outside, poke-inside}
 use Rattle.answers.proofs.bench.poke.Statement.{statement}
 use Rattle.answers.proofs.bench.poke.Tie as tie
-use Rattle.answers.proofs.bench.poke.Reads as reads
-use Rattle.answers.proofs.bench.poke.Lts as lts
-use Rattle.text.proofs.put_bytes.Reads as put-bytes-reads
-use Rattle.words.proofs.copy.Reads as copy-reads
 
--- src/bench.rt:39:21
 add-if1 : tie.Need-add-if1
 add-if1 c = search needs
 
--- src/bench.rt:40:34
 slice-aggregate-put-bytes : tie.Need-slice-aggregate-put-bytes
 slice-aggregate-put-bytes c = search needs
 
--- src/bench.rt:40:9
 put-bytes-requires : tie.Need-put-bytes-requires
-put-bytes-requires c κs = ?
+unfolding text
+put-bytes-requires c κs =
+    let at-if = c .before .before in
+    let at-start = at-if .before .before .before .before in
+    let a = at-start .args in
+    let e = ap length (poke-outside (a .state .now) (a .at) (a .bytes .now) (omega arith) .0) in
+    omega (arith, e, at-start .pre .1)
 
--- src/bench.rt:40:9
 same-length : tie.Need-same-length
 same-length c = search needs
 
--- src/bench.rt:40:9
 returns : tie.Need-returns
-returns c = ?
+unfolding text
+returns c =
+    let at-put = c .before .before in
+    let a = at-put .before .before .before .before .before .before .before .args in
+    let outside = poke-outside (a .state .now) (a .at) (a .bytes .now) (omega arith) in
+    (written-as (outside .0) (at-put .put-bytes .ensures), outside .1)
 
--- src/bench.rt:42:5
 copy-requires : tie.Need-copy-requires
 copy-requires c κs = search needs
 
--- src/bench.rt:43:23
 slice-aggregate-put-bytes-2 : tie.Need-slice-aggregate-put-bytes-2
 slice-aggregate-put-bytes-2 c = search needs
 
--- src/bench.rt:43:5
 put-bytes-requires-2 : tie.Need-put-bytes-requires-2
-put-bytes-requires-2 c κs = ?
+unfolding text
+put-bytes-requires-2 c κs =
+    let at-copy = c .before .before .before .before in
+    let at-start = at-copy .before .before .before .before .before .before in
+    let a = at-start .args in
+    let e = ap length (poke-inside (a .state .now) (a .at) (a .bytes .now) (omega arith) .0) in
+    omega (arith, e, at-start .pre .1)
 
--- src/bench.rt:32:1
 same-length-2 : tie.Need-same-length-2
 same-length-2 c = search needs
 
--- src/bench.rt:32:1
 same-length-3 : tie.Need-same-length-3
 same-length-3 c = search needs
 
--- src/bench.rt:32:1
 returns-2 : tie.Need-returns-2
-returns-2 c = ?
+unfolding text
+returns-2 c =
+    let at-put = c .before .before in
+    let at-copy = at-put .before .before .before .before .before in
+    let a = at-copy .before .before .before .before .before .before .args in
+    let inside = poke-inside (a .state .now) (a .at) (a .bytes .now) (omega arith) in
+    (written-as (inside .0) (at-put .put-bytes2 .ensures), at-copy .copy .ensures ∙ inside .1)
 
 pub poke-spec : {M : Type 1} → statement M
 poke-spec =

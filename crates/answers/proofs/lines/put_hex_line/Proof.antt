@@ -1,30 +1,37 @@
+-- Hex is twice as long as the bytes. Assumes nothing.
+use native.Mathlib.Omega.{arith}
+use Rattle.rules.specs.Text.{text}
+use Rattle.text.proofs.Hex.{length-text}
+use Rattle.text.proofs.Texts.{written-more}
+use Rattle.answers.proofs.Texts.{hex-length}
 use borrow.Author.Needs.{needs}
 use Rattle.answers.proofs.lines.put_hex_line.Statement.{statement}
 use Rattle.answers.proofs.lines.put_hex_line.Tie as tie
-use Rattle.answers.proofs.lines.put_hex_line.Reads as reads
-use Rattle.answers.proofs.lines.put_hex_line.Lts as lts
-use Rattle.text.proofs.put_bytes.Reads as put-bytes-reads
-use Rattle.text.proofs.put_hex.Reads as put-hex-reads
 
--- src/lines.rt:55:9
 put-hex-requires : tie.Need-put-hex-requires
-put-hex-requires c κs = ?
+put-hex-requires c κs =
+    let at-start = c .before .before .before in
+    omega (arith, hex-length (at-start .args .bytes .now), at-start .pre)
 
--- src/lines.rt:56:25
 slice-aggregate-put-bytes : tie.Need-slice-aggregate-put-bytes
 slice-aggregate-put-bytes c = search needs
 
--- src/lines.rt:56:5
 put-bytes-requires : tie.Need-put-bytes-requires
-put-bytes-requires c κs = ?
+put-bytes-requires c κs =
+    let at-hex = c .before .before .before .before in
+    let at-start = at-hex .before .before .before .before in
+    let bytes = at-start .args .bytes .now in
+    omega (arith, hex-length bytes, length-text bytes, at-start .pre, at-hex .put-hex .ensures .place)
 
--- src/lines.rt:51:1
 same-length : tie.Need-same-length
 same-length c = search needs
 
--- src/lines.rt:51:1
 returns : tie.Need-returns
-returns c = ?
+unfolding text
+returns c =
+    let at-end = c .before .before in
+    let at-hex = at-end .before .before .before .before .before in
+    written-more (at-hex .put-hex .ensures) (at-end .put-bytes .ensures)
 
 pub put-hex-line-spec : {M : Type 1} → statement M
 put-hex-line-spec =

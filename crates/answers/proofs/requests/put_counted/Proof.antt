@@ -1,39 +1,54 @@
+-- A word and two numbers. Assumes nothing.
+use native.Mathlib.Omega.{arith}
 use borrow.Author.Needs.{needs}
+use Rattle.rules.specs.Text.{text}
+use Rattle.text.proofs.Texts.{written-more, written-as}
+use Rattle.answers.proofs.Texts.{counted-text, counted-length}
 use Rattle.answers.proofs.requests.put_counted.Statement.{statement}
 use Rattle.answers.proofs.requests.put_counted.Tie as tie
-use Rattle.answers.proofs.requests.put_counted.Reads as reads
-use Rattle.answers.proofs.requests.put_counted.Lts as lts
-use Rattle.answers.proofs.lines.put_number_line.Reads as put-number-line-reads
-use Rattle.text.proofs.put_bytes.Reads as put-bytes-reads
-use Rattle.text.proofs.put_decimal.Reads as put-decimal-reads
 
--- src/requests.rt:120:36
 slice-aggregate-put-bytes : tie.Need-slice-aggregate-put-bytes
 slice-aggregate-put-bytes c = search needs
 
--- src/requests.rt:120:9
 put-bytes-requires : tie.Need-put-bytes-requires
-put-bytes-requires c κs = ?
+put-bytes-requires c κs =
+    let at-start = c .before .before .before in
+    let a = at-start .args in
+    omega (arith, counted-length (a .count) (a .lowest), at-start .pre)
 
--- src/requests.rt:121:9
 put-decimal-requires : tie.Need-put-decimal-requires
-put-decimal-requires c κs = ?
+put-decimal-requires c κs =
+    let at-word = c .before .before .before in
+    let at-start = at-word .before .before .before .before in
+    let a = at-start .args in
+    omega (arith, counted-length (a .count) (a .lowest), at-start .pre, at-word .put-bytes .ensures .place)
 
--- src/requests.rt:122:34
 slice-aggregate-put-number-line : tie.Need-slice-aggregate-put-number-line
 slice-aggregate-put-number-line c = search needs
 
--- src/requests.rt:122:5
 put-number-line-requires : tie.Need-put-number-line-requires
-put-number-line-requires c κs = ?
+unfolding text
+put-number-line-requires c κs =
+    let at-count = c .before .before .before .before in
+    let at-word = at-count .before .before .before .before in
+    let at-start = at-word .before .before .before .before in
+    let a = at-start .args in
+    let p = at-word .put-bytes .ensures .place in
+    let q = at-count .put-decimal .ensures .place in
+    omega (arith, counted-length (a .count) (a .lowest), at-start .pre, p, q)
 
--- src/requests.rt:116:1
 same-length : tie.Need-same-length
 same-length c = search needs
 
--- src/requests.rt:116:1
 returns : tie.Need-returns
-returns c = ?
+unfolding text
+returns c =
+    let at-line = c .before .before in
+    let at-count = at-line .before .before .before .before .before in
+    let at-word = at-count .before .before .before .before in
+    let a = at-word .before .before .before .before .args in
+    written-as (counted-text (a .count) (a .lowest))
+    (written-more (at-word .put-bytes .ensures) (written-more (at-count .put-decimal .ensures) (at-line .put-number-line .ensures)))
 
 pub put-counted-spec : {M : Type 1} → statement M
 put-counted-spec =

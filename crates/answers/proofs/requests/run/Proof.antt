@@ -1,63 +1,84 @@
+-- A run that was made, or the number. Assumes nothing.
+use mathlib.Core.Path.{ap}
+use native.Mathlib.Omega.{arith}
+use lib.ListN.{length}
 use borrow.Author.Needs.{needs}
+use Rattle.rules.specs.Calls.{runAnswer}
+use Rattle.rules.specs.Text.{text}
+use Rattle.text.proofs.Texts.{written-as}
+use Rattle.answers.specs.Answers.{runText}
+use Rattle.answers.proofs.Cases.{run-text}
 use Rattle.answers.proofs.requests.run.Statement.{statement}
 use Rattle.answers.proofs.requests.run.Tie as tie
-use Rattle.answers.proofs.requests.run.Reads as reads
-use Rattle.answers.proofs.requests.run.Lts as lts
-use Rattle.answers.proofs.lines.put_number_line.Reads as put-number-line-reads
-use Rattle.answers.proofs.requests.put_made.Reads as put-made-reads
-use Rattle.runner.proofs.run.Reads as run-reads
 
--- src/requests.rt:105:11
 run-requires : tie.Need-run-requires
 run-requires c κs = search needs
 
--- src/requests.rt:107:13
 enum-known-steps : tie.Need-enum-known-steps
 enum-known-steps c = search needs
 
--- src/requests.rt:110:14
 put-made-requires : tie.Need-put-made-requires
-put-made-requires c κs = ?
+unfolding runText
+put-made-requires c κs =
+    let at-made = c .before .before in
+    let at-run = at-made .before .before .before .before in
+    let at-start = at-run .before .before .before .before in
+    let a = at-start .args in
+    let answer = runAnswer (a .state .now) (a .budget) (a .start) in
+    omega (arith, ap length (run-text answer (at-made .steps .given .1) (at-run .run .ensures .answer-is)), at-start .pre)
 
--- src/requests.rt:111:22
 enum-known-n : tie.Need-enum-known-n
 enum-known-n c = search needs
 
--- src/requests.rt:111:52
 slice-aggregate-put-number-line : tie.Need-slice-aggregate-put-number-line
 slice-aggregate-put-number-line c = search needs
 
--- src/requests.rt:111:62
 cast-put-number-line : tie.Need-cast-put-number-line
 cast-put-number-line c = search needs
 
--- src/requests.rt:111:28
 put-number-line-requires : tie.Need-put-number-line-requires
-put-number-line-requires c κs = ?
+unfolding runText text
+put-number-line-requires c κs =
+    let at-n = c .before .before .before in
+    let at-run = at-n .before .before .before .before in
+    let at-start = at-run .before .before .before .before in
+    let a = at-start .args in
+    let answer = runAnswer (a .state .now) (a .budget) (a .start) in
+    omega (arith, ap length (run-text answer (at-n .n .given .1) (at-run .run .ensures .answer-is)), at-start .pre)
 
--- src/requests.rt:100:1
 same-length : tie.Need-same-length
 same-length c = search needs
 
--- src/requests.rt:100:1
 same-length-2 : tie.Need-same-length-2
 same-length-2 c = search needs
 
--- src/requests.rt:100:1
 returns : tie.Need-returns
-returns c = ?
+unfolding runText
+returns c =
+    let at-put = c .before .before in
+    let at-made = at-put .before .before .before in
+    let at-run = at-made .before .before .before .before in
+    let a = at-run .before .before .before .before .args in
+    let promise = at-run .run .ensures in
+    let answer = runAnswer (a .state .now) (a .budget) (a .start) in
+    (written-as (run-text answer (at-made .steps .given .1) (promise .answer-is)) (at-put .put-made .ensures), promise .memory-is)
 
--- src/requests.rt:100:1
 same-length-3 : tie.Need-same-length-3
 same-length-3 c = search needs
 
--- src/requests.rt:100:1
 same-length-4 : tie.Need-same-length-4
 same-length-4 c = search needs
 
--- src/requests.rt:100:1
 returns-2 : tie.Need-returns-2
-returns-2 c = ?
+unfolding runText text
+returns-2 c =
+    let at-put = c .before .before in
+    let at-n = at-put .before .before .before .before in
+    let at-run = at-n .before .before .before .before in
+    let a = at-run .before .before .before .before .args in
+    let promise = at-run .run .ensures in
+    let answer = runAnswer (a .state .now) (a .budget) (a .start) in
+    (written-as (run-text answer (at-n .n .given .1) (promise .answer-is)) (at-put .put-number-line .ensures), promise .memory-is)
 
 pub run-spec : {M : Type 1} → statement M
 run-spec =

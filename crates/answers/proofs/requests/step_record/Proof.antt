@@ -1,34 +1,55 @@
+-- The reply's number, and the memory that `machine` leaves. Assumes nothing.
+use mathlib.Core.Path.{_≡_, ap, _∙_}
+use Prim.Native.Nat.{ℕ}
+use native.Mathlib.Omega.{arith}
+use lib.ListN.{length}
 use borrow.Author.Needs.{needs}
+use Rattle.rules.specs.Calls.{callRecord, recordAnswer}
+use Rattle.rules.specs.Numbers.{replyNumber}
+use Rattle.rules.specs.Text.{text}
+use Rattle.rules.proofs.Promises.{reply-number}
+use Rattle.text.proofs.Texts.{written-as}
+use Rattle.answers.specs.Answers.{stepText, recordText}
 use Rattle.answers.proofs.requests.step_record.Statement.{statement}
 use Rattle.answers.proofs.requests.step_record.Tie as tie
-use Rattle.answers.proofs.requests.step_record.Reads as reads
-use Rattle.answers.proofs.requests.step_record.Lts as lts
-use Rattle.answers.proofs.requests.put_step.Reads as put-step-reads
-use Rattle.machine.proofs.ask_record.Reads as ask-record-reads
 
--- src/requests.rt:75:9
 ask-record-requires : tie.Need-ask-record-requires
 ask-record-requires c κs = search needs
 
--- src/requests.rt:76:19
 slice-aggregate-put-step : tie.Need-slice-aggregate-put-step
 slice-aggregate-put-step c = search needs
 
--- src/requests.rt:76:5
-put-step-requires : tie.Need-put-step-requires
-put-step-requires c κs = ?
+-- the number that is printed
+number : (c : tie.After-ask-record)
+    → let a = c .before .before .before .before .args in
+    replyNumber (c .ask-record .result) ≡ callRecord (a .state .now) (a .n) .number
+unfolding callRecord
+number c =
+    let a = c .before .before .before .before .args in
+    ap replyNumber (c .ask-record .ensures .answer-is) ∙ reply-number (recordAnswer (a .state .now) (a .n))
 
--- src/requests.rt:70:1
+put-step-requires : tie.Need-put-step-requires
+unfolding recordText text
+put-step-requires c κs =
+    let at-ask = c .before .before .before .before in
+    let at-start = at-ask .before .before .before .before in
+    let e = ap (λ (k : ℕ). length (stepText (text "R ") (at-start .args .n) k)) (number at-ask) in
+    omega (arith, e, at-start .pre)
+
 same-length : tie.Need-same-length
 same-length c = search needs
 
--- src/requests.rt:70:1
 same-length-2 : tie.Need-same-length-2
 same-length-2 c = search needs
 
--- src/requests.rt:70:1
 returns : tie.Need-returns
-returns c = ?
+unfolding recordText text
+returns c =
+    let at-step = c .before .before in
+    let at-ask = at-step .before .before .before .before .before in
+    let n = at-ask .before .before .before .before .args .n in
+    let e = ap (λ (k : ℕ). stepText (text "R ") n k) (number at-ask) in
+    (written-as e (at-step .put-step .ensures), at-ask .ask-record .ensures .memory-is)
 
 pub step-record-spec : {M : Type 1} → statement M
 step-record-spec =
