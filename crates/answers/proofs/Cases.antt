@@ -3,7 +3,7 @@ use mathlib.Core.Path.{_≡_, refl, sym, ap, _∙_}
 use mathlib.Core.List.{List, _++_}
 use Prim.Native.Nat.{ℕ, _+_, _-_, _*_, _≤_, _<_}
 use native.Mathlib.Omega.{arith}
-use lib.ListN.{length, take, drop}
+use lib.ListN.{length, take, drop, length-append}
 use lib.Seq.{take-at}
 use borrow.Author.Tests.{ltb-false, le-leb, lt-leb}
 use Rattle.rules.specs.Limits.{codeLimit}
@@ -26,7 +26,7 @@ use Rattle.runner.specs.declared.running.Ran.{Ran}
 use Rattle.runner.specs.declared.running.Ran.the-variants as ran
 use Rattle.runner.specs.Runs.{verdictCode, ranReply}
 use Rattle.printed.specs.Meaning.{verdictIn}
-use Rattle.answers.specs.Answers.{numberLine, hexLine, writtenText, madeText, ranText, peekText, pokeText, poked}
+use Rattle.answers.specs.Answers.{numberLine, hexLine, imageRoom, writtenText, writeText, madeText, ranText, peekText, pokeText, poked}
 
 -- ---- a run
 
@@ -86,7 +86,7 @@ pub image-short : (code : List ℕ) → length code ≤ codeLimit → blockSize 
 unfolding blockCount
 image-short code h = omega arith
 
--- done: the code is no longer than a code may be, and the image stands in front of the room
+-- done: the code is no longer than a code may be
 pub write-done : (code room : List ℕ) (a : Answer (List ℕ)) → writeAnswer code room ≡ a → Done ≡ replyTo a
     → (length code ≤ codeLimit) × (a ≡ done (written code room))
 unfolding writeAnswer writeCauses
@@ -94,6 +94,27 @@ write-done code room (refused n) is e = absurd (omega (arith, ap isRefused e))
 write-done code room (done x) is e =
     let passed = all-passed (writeCauses code room) (done (written code room)) x is in
     (ltb-false codeLimit (length code) (passed .0 .1 .0), sym (passed .1))
+
+-- a write into the room that is done: the image stands in front, and it is what is said
+pub record Written-image (code after : List ℕ) : Type 0 where
+  pub short : length code ≤ codeLimit
+  pub long : blockSize * blockCount (length code) ≤ length after
+  pub front-is : take (blockSize * blockCount (length code)) after ≡ imageOf code
+  pub text-is : numberLine (text "write ") 0 ++ hexLine (imageOf code) ≡ writeText code
+
+pub image-done : (code room : List ℕ) {after : List ℕ} → room ≡ imageRoom → Done ≡ replyTo (writeAnswer code room)
+    → after ≡ write code room .memory → Written-image code after
+unfolding write written writeText
+image-done code room {after} is e left =
+    let answer = write-done code room (writeAnswer code room) refl e in
+    let n : ℕ = blockSize * blockCount (length code) in
+    let all : after ≡ imageOf code ++ drop n room = left ∙ ap (outputOr room) (answer .1) in
+    record {
+      short = answer .0;
+      long = omega (arith, ap length all, length-append (imageOf code) (drop n room), image-length code);
+      front-is = ap (take n) all ∙ take-at (imageOf code) (drop n room) n (image-length code);
+      text-is = sym (ap (writtenText code) (answer .1)) ∙ ap (λ (r : List ℕ). writtenText code (writeAnswer code r)) is;
+    }
 
 -- ---- the bench
 

@@ -16,7 +16,7 @@ returns c = search needs
 
 returns-2 : tie.Need-returns-2
 returns-2 c =
-    let a = c .before .before .args in
+    let a = c .before .args in
     sym (take-all (a .n) (a .bytes .now) (omega arith))
 
 pub front-spec : {M : Type 1} → statement M
