@@ -1,17 +1,19 @@
 -- What the answers of the machine, the runner and the writer stand for in the answer's text. Assumes nothing.
 use mathlib.Core.Path.{_≡_, refl, sym, ap, _∙_}
+use mathlib.Core.Bool.{true, false}
 use mathlib.Core.List.{List, _++_}
 use Prim.Native.Nat.{ℕ, _+_, _-_, _*_, _≤_, _<_}
 use native.Mathlib.Omega.{arith}
 use lib.ListN.{length, take, drop, length-append}
 use lib.Seq.{take-at}
-use borrow.Author.Tests.{ltb-false, le-leb, lt-leb}
+use borrow.Author.Tests.{eq-eqb, ltb-false, le-leb, lt-leb}
 use Rattle.rules.specs.Limits.{codeLimit}
 use Rattle.rules.specs.Bytes.{pad}
-use Rattle.rules.specs.Refusal.{Answer, refused, done}
+use Rattle.rules.specs.Refusal.{Answer, refused, done, unless}
 use Rattle.rules.specs.Run as run
 use Rattle.rules.specs.Image.{blockSize, dataSize, blockCount, headed, imageOf, writeCauses, written}
-use Rattle.rules.specs.Calls.{write, writeAnswer, outputOr, FreeEnds}
+use Rattle.rules.specs.Layout.{stateSize, view}
+use Rattle.rules.specs.Calls.{soundBytes, outputOr, writeAnswer, write}
 use Rattle.rules.specs.Numbers.{replyTo}
 use Rattle.rules.specs.Text.{text}
 use Rattle.rules.specs.declared.Reply.{Reply}
@@ -26,7 +28,8 @@ use Rattle.runner.specs.declared.running.Ran.{Ran}
 use Rattle.runner.specs.declared.running.Ran.the-variants as ran
 use Rattle.runner.specs.Runs.{verdictCode, ranReply}
 use Rattle.printed.specs.Meaning.{verdictIn}
-use Rattle.answers.specs.Answers.{numberLine, hexLine, imageRoom, writtenText, writeText, madeText, ranText, peekText, pokeText, poked}
+use Rattle.answers.specs.Answers.{numberLine, hexLine, imageRoom, writtenText, writeText, madeText, ranText}
+use Rattle.answers.specs.Answers.{stateText, dumpText, peekText, pokeText, poked}
 
 -- ---- a run
 
@@ -117,6 +120,16 @@ image-done code room {after} is e left =
     }
 
 -- ---- the bench
+
+-- a memory that is the layout of no sound state, and one that is
+module _ (state : List ℕ) (size : length state ≡ stateSize) where
+  pub dump-unsound : soundBytes state ≡ false → numberLine (text "dump: refused ") 1 ≡ dumpText state
+  unfolding dumpText unless
+  dump-unsound h = rw (eq-eqb (length state) stateSize size, h) refl
+
+  pub dump-sound : soundBytes state ≡ true → stateText (view state) ≡ dumpText state
+  unfolding dumpText unless
+  dump-sound h = rw (eq-eqb (length state) stateSize size, h) refl
 
 -- bytes that do not all lie within the memory, and such as do
 pub peek-outside : (state : List ℕ) (at count : ℕ) → length state < at + count → text "peek: out of range\n" ≡ peekText state at count

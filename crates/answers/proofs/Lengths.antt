@@ -13,16 +13,18 @@ use Rattle.rules.specs.Run.{Verdict, spent, finished, stuck, Ran}
 use Rattle.rules.specs.Image.{imageOf}
 use Rattle.rules.specs.Layout.{stateSize, view}
 use Rattle.rules.specs.Calls as calls
-use Rattle.rules.specs.Calls.{writeAnswer, callRecord, callEnd, FreeEnds, callFreeEnds, runAnswer}
+use Rattle.rules.specs.Calls.{soundBytes, writeAnswer, callRecord, callEnd, FreeEnds, callFreeEnds, runAnswer}
 use Rattle.rules.specs.Text.{text, digitsBefore, decimal}
 use Rattle.rules.specs.Printed.{verdictText}
+use Rattle.keeping.specs.Demand3.{SoundMemory}
+use Rattle.keeping.proofs.Memories.{memory-of-test}
 use Rattle.commands.specs.Asked.{Asked, unknown, free, dump, load, write, record-step, end-step, run, peek, poke}
 use Rattle.commands.specs.Asked.{lineLimit, firstWord, when}
 use Rattle.answers.specs.Sizes.{outputSize}
 use Rattle.answers.specs.Answers.{numberLine, hexLine, loadText, imageRoom, writtenText, writeText, stepText, recordText, endText}
-use Rattle.answers.specs.Answers.{madeText, ranText, runText, freeEndsText, freeText, peekText, pokeText, answerText}
+use Rattle.answers.specs.Answers.{madeText, ranText, runText, freeEndsText, freeText, stateText, dumpText, peekText, pokeText, answerText}
 use Rattle.answers.proofs.Texts.{number-length, hex-length, verdict-length, step-length, made-length, counted-length, unknown-length}
-use Rattle.answers.proofs.Cases.{image-length, image-short, write-done}
+use Rattle.answers.proofs.Cases.{image-length, image-short, write-done, dump-unsound, dump-sound}
 
 -- ---- a number has at most twenty digits
 
@@ -91,6 +93,20 @@ free-most (done x) =
 
 -- ---- the bench
 
+-- TEMPORARY
+abbrev dumpRoom : ℕ
+dumpRoom = 79000
+state-room : (m : List ℕ) → SoundMemory m → length (stateText (view m)) ≤ dumpRoom
+unfolding stateText text
+state-room m h = omega arith
+
+dump-most : (state : List ℕ) → length state ≡ stateSize → (b : Bool) → soundBytes state ≡ b → length (dumpText state) ≤ outputSize
+unfolding text
+dump-most state size true is =
+    omega (arith, ap length (dump-sound state size is), state-room state (memory-of-test state is))
+dump-most state size false is =
+    omega (arith, ap length (dump-unsound state size is), number-most (text "dump: refused ") 1)
+
 peek-most : (state : List ℕ) (at count : ℕ) → length state ≡ stateSize → (b : Bool) → leb (at + count) (length state) ≡ b
     → length (when b (hexLine (take count (drop at state))) (text "peek: out of range\n")) ≤ outputSize
 unfolding text
@@ -116,6 +132,6 @@ answer-short line state (record-step n) size = omega (arith, step-most (text "R 
 answer-short line state (end-step n) size = omega (arith, step-most (text "E ") n (callEnd state n .number))
 answer-short line state (run budget start) size = ran-most (runAnswer state budget start)
 answer-short line state free size = free-most (callFreeEnds state)
-answer-short line state dump size = ?
+answer-short line state dump size = dump-most state size (soundBytes state) refl
 answer-short line state (peek at count) size = peek-most state at count size (leb (at + count) (length state)) refl
 answer-short line state (poke at bytes) size = poke-most (leb (at + length bytes) (length state))

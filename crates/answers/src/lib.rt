@@ -30,7 +30,7 @@ pub fn answer(line: &[u8], state: &mut [u8], bytes: &mut [u8], out: &mut [u8]) -
         Command::End(n) => requests::step_end(n, state, out),
         Command::Run(budget, start) => requests::run(budget, start, state, out),
         Command::Free => requests::free(state, out),
-        Command::Dump => bench::unknown(line, out),
+        Command::Dump => bench::dump(state, out),
         Command::Peek(at, count) => bench::peek(at, count, state, out),
         Command::Poke(at, n) => bench::poke(at, &bytes[..n], state, out),
     }

@@ -147,8 +147,11 @@ free-requires c κs =
 enum-told-3 : tie.Need-enum-told-3
 enum-told-3 c = search needs
 
-unknown-requires-2 : tie.Need-unknown-requires-2
-unknown-requires-2 c κs = ?
+dump-requires : tie.Need-dump-requires
+dump-requires c κs =
+    let at-told = c .before .before in
+    let at-parse = at-told .before .before .before .before in
+    (size at-parse, room at-parse (at-told .enum-told3 .given .1))
 
 enum-known-at : tie.Need-enum-known-at
 enum-known-at c = search needs
@@ -291,17 +294,24 @@ same-length-20 c = search needs
 same-length-21 : tie.Need-same-length-21
 same-length-21 c = search needs
 
-returns-8 : tie.Need-returns-8
-returns-8 c = ?
-
 same-length-22 : tie.Need-same-length-22
 same-length-22 c = search needs
+
+returns-8 : tie.Need-returns-8
+returns-8 c =
+    let at-put = c .before .before in
+    let at-told = at-put .before .before .before in
+    let at-parse = at-told .before .before .before .before in
+    given at-parse (at-told .enum-told3 .given .1) (at-put .dump .ensures) refl
 
 same-length-23 : tie.Need-same-length-23
 same-length-23 c = search needs
 
 same-length-24 : tie.Need-same-length-24
 same-length-24 c = search needs
+
+same-length-25 : tie.Need-same-length-25
+same-length-25 c = search needs
 
 returns-9 : tie.Need-returns-9
 returns-9 c =
@@ -310,14 +320,14 @@ returns-9 c =
     let at-parse = at-told .before .before .before .before in
     given at-parse (at-told .at .given .1) (at-put .peek .ensures) refl
 
-same-length-25 : tie.Need-same-length-25
-same-length-25 c = search needs
-
 same-length-26 : tie.Need-same-length-26
 same-length-26 c = search needs
 
 same-length-27 : tie.Need-same-length-27
 same-length-27 c = search needs
+
+same-length-28 : tie.Need-same-length-28
+same-length-28 c = search needs
 
 returns-10 : tie.Need-returns-10
 returns-10 c =
@@ -350,7 +360,7 @@ answer-spec =
     enum-told-2
     free-requires
     enum-told-3
-    unknown-requires-2
+    dump-requires
     enum-known-at
     peek-requires
     enum-known-at-2
@@ -385,12 +395,13 @@ answer-spec =
     returns-7
     same-length-20
     same-length-21
-    returns-8
     same-length-22
+    returns-8
     same-length-23
     same-length-24
-    returns-9
     same-length-25
+    returns-9
     same-length-26
     same-length-27
+    same-length-28
     returns-10)
