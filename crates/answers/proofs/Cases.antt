@@ -27,9 +27,10 @@ use Rattle.runner.specs.declared.verdict.Verdict.the-variants.{Spent}
 use Rattle.runner.specs.declared.running.Ran.{Ran}
 use Rattle.runner.specs.declared.running.Ran.the-variants as ran
 use Rattle.runner.specs.Runs.{verdictCode, ranReply}
+use Rattle.dump.specs.Shown.{stateText}
 use Rattle.printed.specs.Meaning.{verdictIn}
 use Rattle.answers.specs.Answers.{numberLine, hexLine, imageRoom, writtenText, writeText, madeText, ranText}
-use Rattle.answers.specs.Answers.{stateText, dumpText, peekText, pokeText, poked}
+use Rattle.answers.specs.Answers.{dumpText, peekText, pokeText, poked}
 
 -- ---- a run
 

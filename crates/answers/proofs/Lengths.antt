@@ -14,43 +14,30 @@ use Rattle.rules.specs.Image.{imageOf}
 use Rattle.rules.specs.Layout.{stateSize, view}
 use Rattle.rules.specs.Calls as calls
 use Rattle.rules.specs.Calls.{soundBytes, writeAnswer, callRecord, callEnd, FreeEnds, callFreeEnds, runAnswer}
-use Rattle.rules.specs.Text.{text, digitsBefore, decimal}
+use Rattle.rules.specs.Text.{text}
 use Rattle.rules.specs.Printed.{verdictText}
 use Rattle.keeping.specs.Demand3.{SoundMemory}
 use Rattle.keeping.proofs.Memories.{memory-of-test}
+use Rattle.text.proofs.Shortness.{decimal-room}
 use Rattle.commands.specs.Asked.{Asked, unknown, free, dump, load, write, record-step, end-step, run, peek, poke}
 use Rattle.commands.specs.Asked.{lineLimit, firstWord, when}
+use Rattle.dump.proofs.Lengths.{state-room}
 use Rattle.answers.specs.Sizes.{outputSize}
 use Rattle.answers.specs.Answers.{numberLine, hexLine, loadText, imageRoom, writtenText, writeText, stepText, recordText, endText}
-use Rattle.answers.specs.Answers.{madeText, ranText, runText, freeEndsText, freeText, stateText, dumpText, peekText, pokeText, answerText}
+use Rattle.answers.specs.Answers.{madeText, ranText, runText, freeEndsText, freeText, dumpText, peekText, pokeText, answerText}
 use Rattle.answers.proofs.Texts.{number-length, hex-length, verdict-length, step-length, made-length, counted-length, unknown-length}
 use Rattle.answers.proofs.Cases.{image-length, image-short, write-done, dump-unsound, dump-sound}
 
--- ---- a number has at most twenty digits
-
-digits-most : (most n : ℕ) (low : List ℕ) → length (digitsBefore most n low) ≤ most + length low
-unfolding digitsBefore
-digits-most zero n low = omega arith
-digits-most (suc most) n low = go (n / 10) (digits-most most (n / 10) ((48 + n % 10) ∷ low))
-  where
-    go : (k : ℕ) → length (digitsBefore most (n / 10) ((48 + n % 10) ∷ low)) ≤ most + suc (length low)
-        → length {A = ℕ} (elim k [ zero ↦ (48 + n % 10) ∷ low | suc j ↦ digitsBefore most (n / 10) ((48 + n % 10) ∷ low) ]) ≤ suc most + length low
-    go zero more = omega arith
-    go (suc j) more = omega arith
-
-decimal-most : (n : ℕ) → length (decimal n) ≤ 20
-unfolding decimal
-decimal-most n = omega (arith, digits-most 20 n [])
-
+-- a number has at most twenty digits
 number-most : (word : List ℕ) (n : ℕ) → length (numberLine word n) ≤ length word + 21
-number-most word n = omega (arith, number-length word n, decimal-most n)
+number-most word n = omega (arith, number-length word n, decimal-room n)
 
 -- ---- the requests
 
 step-most : (name : List ℕ) (n number : ℕ) → length (stepText name n number) ≤ length name + 43
 unfolding text
 step-most name n number =
-    omega (arith, step-length name n number, decimal-most n, number-most (text ": ") number)
+    omega (arith, step-length name n number, decimal-room n, number-most (text ": ") number)
 
 written-most : (code : List ℕ) (a : Answer (List ℕ)) → writeAnswer code imageRoom ≡ a → length (writtenText code a) ≤ outputSize
 unfolding text
@@ -79,8 +66,8 @@ ran-most (done x) =
     omega (
       arith,
       made-length (x .made) (x .next) (x .verdict),
-      decimal-most (x .made),
-      decimal-most (x .next),
+      decimal-room (x .made),
+      decimal-room (x .next),
       verdict-length (x .verdict),
       verdict-most (x .verdict),
     )
@@ -89,16 +76,9 @@ free-most : (a : Answer FreeEnds) → length (freeEndsText a) ≤ outputSize
 unfolding text
 free-most (refused n) = omega (arith, number-most (text "free: refused ") n)
 free-most (done x) =
-    omega (arith, counted-length (x .count) (x .lowest), decimal-most (x .count), number-most (text " ") (x .lowest))
+    omega (arith, counted-length (x .count) (x .lowest), decimal-room (x .count), number-most (text " ") (x .lowest))
 
 -- ---- the bench
-
--- TEMPORARY
-abbrev dumpRoom : ℕ
-dumpRoom = 79000
-state-room : (m : List ℕ) → SoundMemory m → length (stateText (view m)) ≤ dumpRoom
-unfolding stateText text
-state-room m h = omega arith
 
 dump-most : (state : List ℕ) → length state ≡ stateSize → (b : Bool) → soundBytes state ≡ b → length (dumpText state) ≤ outputSize
 unfolding text

@@ -18,10 +18,7 @@ use Rattle.words.specs.Parts.{putAt}
 use Rattle.text.specs.Written.{hexText}
 use Rattle.commands.specs.Asked.{Asked, unknown, free, dump, load, write, record-step, end-step, run, peek, poke}
 use Rattle.commands.specs.Asked.{lineLimit, firstWord, when}
-
--- TEMPORARY
-unfoldable pub stateText : State → List ℕ
-stateText st = text "end\n"
+use Rattle.dump.specs.Shown.{stateText}
 
 -- a word, a number and the line's end
 abbrev pub numberLine : (word : List ℕ) (n : ℕ) → List ℕ

@@ -1,13 +1,12 @@
 // The answers of the bench: the state memory in words and in bytes, bytes written into it, and a line that is not understood. What each says
 // and does is defined in specs/Answers.antt; a function asks for just the room that its answer takes.
 ghost use mathlib.Core.Path.{_≡_};
-ghost use Prim.Native.Nat.{_+_, _≤_};
+ghost use Prim.Native.Nat.{_≤_};
 ghost use lib.ListN.{length};
-ghost use Rattle.rules.specs.Layout.{stateSize, view};
-ghost use Rattle.keeping.specs.Demand3.{SoundMemory};
+ghost use Rattle.rules.specs.Layout.{stateSize};
 ghost use Rattle.text.specs.Written.{Written};
 ghost use Rattle.answers.specs.Sizes.{byteSize};
-ghost use Rattle.answers.specs.Answers.{stateText, dumpText, peekText, pokeText, poked, unknownText};
+ghost use Rattle.answers.specs.Answers.{dumpText, peekText, pokeText, poked, unknownText};
 use commands::LINE_LIMIT;
 use crate::lines::front;
 use crate::lines::put_hex_line;
@@ -19,15 +18,6 @@ use text::put_bytes;
 
 const SPACE: u8 = 32;
 
-// TEMPORARY
-fn put_state(out: &mut [u8], at: usize, m: &[u8]) -> usize
-    requires { ⌜ SoundMemory (now m) ⌝ }
-    requires { ⌜ at + length (stateText (view (now m))) ≤ length (now out) ⌝ }
-    ensures { λ r. ⌜ Written (now (out .entry)) at (stateText (view (now (m .entry)))) (now (out .exit)) r ⌝ }
-{
-    put_bytes(out, at, b"end\n")
-}
-
 pub fn dump(state: &[u8], out: &mut [u8]) -> usize
     requires { ⌜ length (now state) ≡ stateSize ⌝ }
     requires { ⌜ length (dumpText (now state)) ≤ length (now out) ⌝ }
@@ -36,7 +26,7 @@ pub fn dump(state: &[u8], out: &mut [u8]) -> usize
     if !soundness::is_sound(state) {
         return put_number_line(out, 0, b"dump: refused ", UNSOUND as u64);
     }
-    put_state(out, 0, state)
+    dump::put_state(out, 0, state)
 }
 
 pub fn peek(at: u32, count: u32, state: &[u8], out: &mut [u8]) -> usize

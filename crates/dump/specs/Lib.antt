@@ -1,1 +1,3 @@
+pub mod Shown
+pub mod Pieces
 pub mod Rooms

@@ -1,4 +1,4 @@
--- How many bytes each part of a dump takes at most: what its functions ask of the buffer. Assumes nothing.
+-- How many bytes each part of a dump takes at most: what a buffer for it needs. Assumes nothing.
 use Prim.Native.Nat.{ℕ, _+_, _*_}
 use Rattle.rules.specs.Limits.{codeLimit, recordCount, endCount, slotCount, stackDepth, queueDepth}
 
@@ -9,30 +9,27 @@ numberRoom = 20
 abbrev pub signedRoom : ℕ
 signedRoom = 11
 
--- a value of a list with its comma, and the list
-abbrev pub valueRoom : ℕ
-valueRoom = signedRoom + 1
-
+-- a list of values, each with its comma
 abbrev pub valuesRoom : ℕ
-valuesRoom = valueRoom * stackDepth
+valuesRoom = (signedRoom + 1) * stackDepth
 
--- a slot with its comma, and all of them
+-- a slot, and all of them, each with its comma
 abbrev pub slotRoom : ℕ
-slotRoom = 2 * numberRoom + 2
+slotRoom = 2 * numberRoom + 1
 
 abbrev pub slotsRoom : ℕ
-slotsRoom = slotRoom * slotCount
+slotsRoom = (slotRoom + 1) * slotCount
 
 -- the line of a record: two numbers, two lists of values, the slots, and thirty bytes of words
 abbrev pub recordRoom : ℕ
 recordRoom = 2 * numberRoom + 2 * valuesRoom + slotsRoom + 30
 
--- an item with its comma, and a queue
+-- an item, and a queue of them, each with its comma
 abbrev pub itemRoom : ℕ
-itemRoom = 2 * numberRoom + 3
+itemRoom = 2 * numberRoom + 2
 
 abbrev pub queueRoom : ℕ
-queueRoom = itemRoom * queueDepth
+queueRoom = (itemRoom + 1) * queueDepth
 
 -- the line of an end: two numbers, the queue, and eighteen bytes of words
 abbrev pub endRoom : ℕ
@@ -40,7 +37,7 @@ endRoom = 2 * numberRoom + queueRoom + 18
 
 -- the line of the code
 abbrev pub codeRoom : ℕ
-codeRoom = 2 * codeLimit + 7
+codeRoom = 2 * codeLimit + 6
 
 -- all lines, and the last one
 abbrev pub dumpRoom : ℕ

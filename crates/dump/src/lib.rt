@@ -1,37 +1,28 @@
-// A state in words, as the console shows it: a line for the code, one for each record in use, one for each end in use, and `end`. Any
-// memory of the right length is shown, and what is shown means something only where the memory is sound. A function asks for the room that
-// it may need and answers the place behind what it printed.
+// A state in words, as the console shows it: a line for the code, one for each record in use, one for each end in use, and `end`. What is
+// printed is `stateText` of the state that a sound memory shows. A function asks for just the room that its text takes, and answers the
+// place behind it.
 mod end_line;
 mod lists;
 mod record_line;
 
 ghost use mathlib.Core.Path.{_≡_};
-ghost use Prim.Native.Nat.{_+_, _*_, _≤_};
+ghost use mathlib.Core.List.{_++_};
+ghost use Prim.Native.Nat.{_+_, _≤_};
 ghost use lib.ListN.{length};
-ghost use Rattle.rules.specs.Limits.{codeLimit, recordCount, endCount};
-ghost use Rattle.rules.specs.Layout.{stateSize};
-ghost use Rattle.dump.specs.Rooms.{codeRoom, recordRoom, endRoom, dumpRoom};
-pub use lists::put_number;
-use rules::CODE_LIMIT;
+ghost use Rattle.rules.specs.Text.{text as textOf};
+ghost use Rattle.rules.specs.Layout.{stateSize, view};
+ghost use Rattle.keeping.specs.Demand3.{SoundMemory};
+ghost use Rattle.text.specs.Written.{Written};
+ghost use Rattle.dump.specs.Shown.{codeText, recordsText, endsText, stateText};
 use rules::END_COUNT;
 use rules::RECORD_COUNT;
 use text::put_bytes;
 use text::put_hex;
 
-// The length of a code, and no more than a memory holds.
-fn least(size: u16) -> usize
-    ensures { λ r. ⌜ r ≤ codeLimit ⌝ }
-{
-    if (size as usize) < CODE_LIMIT {
-        return size as usize;
-    }
-    CODE_LIMIT
-}
-
-// The bytes of a code, `-` for none.
+// The bytes of a code in hex, `-` for none.
 fn put_bytes_of(out: &mut [u8], at: usize, code: &[u8]) -> usize
-    requires { ⌜ at + (2 * length (now code) + 1) ≤ length (now out) ⌝ }
-    ensures { λ r. ⌜ r ≤ at + (2 * length (now (code .entry)) + 1) ⌝ }
+    requires { ⌜ at + length (codeText (now code)) ≤ length (now out) ⌝ }
+    ensures { λ r. ⌜ Written (now (out .entry)) at (codeText (now (code .entry))) (now (out .exit)) r ⌝ }
 {
     if code.len() == 0 {
         return put_bytes(out, at, b"-");
@@ -41,21 +32,21 @@ fn put_bytes_of(out: &mut [u8], at: usize, code: &[u8]) -> usize
 
 // The line of the code.
 fn put_code(out: &mut [u8], at: usize, m: &[u8]) -> usize
-    requires { ⌜ length (now m) ≡ stateSize ⌝ }
-    requires { ⌜ at + codeRoom ≤ length (now out) ⌝ }
-    ensures { λ r. ⌜ r ≤ at + codeRoom ⌝ }
+    requires { ⌜ (length (now m) ≡ stateSize) × SoundMemory (now m) ⌝ }
+    requires { ⌜ at + length (textOf "code " ++ codeText (view (now m) .code) ++ textOf "\n") ≤ length (now out) ⌝ }
+    ensures { λ r. ⌜ Written (now (out .entry)) at (textOf "code " ++ codeText (view (now (m .entry)) .code) ++ textOf "\n")
+        (now (out .exit)) r ⌝ }
 {
-    let size = least(words::get16(m, 0));
     let named = put_bytes(out, at, b"code ");
-    let shown = put_bytes_of(out, named, &m[2..2 + size]);
+    let shown = put_bytes_of(out, named, stepping::code(m));
     put_bytes(out, shown, b"\n")
 }
 
 // The lines of the records.
 fn put_records(out: &mut [u8], at: usize, m: &[u8]) -> usize
-    requires { ⌜ length (now m) ≡ stateSize ⌝ }
-    requires { ⌜ at + recordRoom * recordCount ≤ length (now out) ⌝ }
-    ensures { λ r. ⌜ r ≤ at + recordRoom * recordCount ⌝ }
+    requires { ⌜ (length (now m) ≡ stateSize) × SoundMemory (now m) ⌝ }
+    requires { ⌜ at + length (recordsText (view (now m) .records)) ≤ length (now out) ⌝ }
+    ensures { λ r. ⌜ Written (now (out .entry)) at (recordsText (view (now (m .entry)) .records)) (now (out .exit)) r ⌝ }
 {
     let mut next = at;
     let mut r = 0;
@@ -68,9 +59,9 @@ fn put_records(out: &mut [u8], at: usize, m: &[u8]) -> usize
 
 // The lines of the ends.
 fn put_ends(out: &mut [u8], at: usize, m: &[u8]) -> usize
-    requires { ⌜ length (now m) ≡ stateSize ⌝ }
-    requires { ⌜ at + endRoom * endCount ≤ length (now out) ⌝ }
-    ensures { λ r. ⌜ r ≤ at + endRoom * endCount ⌝ }
+    requires { ⌜ (length (now m) ≡ stateSize) × SoundMemory (now m) ⌝ }
+    requires { ⌜ at + length (endsText (view (now m) .ends)) ≤ length (now out) ⌝ }
+    ensures { λ r. ⌜ Written (now (out .entry)) at (endsText (view (now (m .entry)) .ends)) (now (out .exit)) r ⌝ }
 {
     let mut next = at;
     let mut e = 0;
@@ -83,9 +74,9 @@ fn put_ends(out: &mut [u8], at: usize, m: &[u8]) -> usize
 
 // The state in words.
 pub fn put_state(out: &mut [u8], at: usize, m: &[u8]) -> usize
-    requires { ⌜ length (now m) ≡ stateSize ⌝ }
-    requires { ⌜ at + dumpRoom ≤ length (now out) ⌝ }
-    ensures { λ r. ⌜ r ≤ at + dumpRoom ⌝ }
+    requires { ⌜ SoundMemory (now m) ⌝ }
+    requires { ⌜ at + length (stateText (view (now m))) ≤ length (now out) ⌝ }
+    ensures { λ r. ⌜ Written (now (out .entry)) at (stateText (view (now (m .entry)))) (now (out .exit)) r ⌝ }
 {
     let behind_code = put_code(out, at, m);
     let behind_records = put_records(out, behind_code, m);

@@ -1,104 +1,98 @@
 // Numbers and lists of them: commas between the things of a list, `-` for an empty one.
+ghost use mathlib.Core.List.{_++_, map};
 ghost use Prim.Native.Nat.{_+_, _≤_};
-ghost use lib.ListN.{length};
-ghost use Rattle.dump.specs.Rooms.{numberRoom, signedRoom, valueRoom, valuesRoom, slotRoom, slotsRoom};
+ghost use lib.ListN.{length, take};
+ghost use Rattle.rules.specs.Limits.{stackDepth};
+ghost use Rattle.rules.specs.Text.{decimal, signedDecimal};
+ghost use Rattle.rules.specs.Layout.{viewOptional};
+ghost use Rattle.text.specs.Written.{Written};
+ghost use Rattle.dump.specs.Shown.{valuesText, slotText, slotsText};
+ghost use Rattle.dump.specs.Pieces.{commaBehind, dashFor};
 use rules::SLOT_COUNT;
 use rules::STACK_DEPTH;
 use text::put_bytes;
 use text::put_decimal;
 use text::put_signed;
 
-// A number.
-pub fn put_number(out: &mut [u8], at: usize, n: u64) -> usize
-    requires { ⌜ at + numberRoom ≤ length (now out) ⌝ }
-    ensures { λ r. ⌜ r ≤ at + numberRoom ⌝ }
+// A word and a number.
+pub fn put_named(out: &mut [u8], at: usize, word: &[u8], n: u64) -> usize
+    requires { ⌜ at + length (now word ++ decimal n) ≤ length (now out) ⌝ }
+    ensures { λ r. ⌜ Written (now (out .entry)) at (now (word .entry) ++ decimal n) (now (out .exit)) r ⌝ }
 {
-    put_decimal(out, at, n)
+    let behind = put_bytes(out, at, word);
+    put_decimal(out, behind, n)
 }
 
-// A signed number.
-pub fn put_value(out: &mut [u8], at: usize, v: i32) -> usize
-    requires { ⌜ at + signedRoom ≤ length (now out) ⌝ }
-    ensures { λ r. ⌜ r ≤ at + signedRoom ⌝ }
+// A comma behind so many things of a list; behind none, nothing.
+pub fn put_comma(out: &mut [u8], at: usize, shown: usize) -> usize
+    requires { ⌜ at + length (commaBehind shown) ≤ length (now out) ⌝ }
+    ensures { λ r. ⌜ Written (now (out .entry)) at (commaBehind shown) (now (out .exit)) r ⌝ }
 {
-    put_signed(out, at, v)
-}
-
-// A comma, unless the list begins here.
-pub fn put_comma(out: &mut [u8], at: usize, begins: bool) -> usize
-    requires { ⌜ at + 1 ≤ length (now out) ⌝ }
-    ensures { λ r. ⌜ r ≤ at + 1 ⌝ }
-{
-    if begins {
+    if shown == 0 {
         return at;
     }
     put_bytes(out, at, b",")
 }
 
-// The lesser of a count and the most that there can be.
-pub fn least(count: u8, most: usize) -> usize
-    ensures { λ r. ⌜ r ≤ most ⌝ }
+// What ends a list of so many things: `-` for none.
+pub fn put_dash(out: &mut [u8], at: usize, shown: usize) -> usize
+    requires { ⌜ at + length (dashFor shown) ≤ length (now out) ⌝ }
+    ensures { λ r. ⌜ Written (now (out .entry)) at (dashFor shown) (now (out .exit)) r ⌝ }
 {
-    if (count as usize) < most {
-        return count as usize;
+    if shown == 0 {
+        return put_bytes(out, at, b"-");
     }
-    most
+    at
 }
 
-// A value of a list.
-fn put_next(out: &mut [u8], at: usize, begins: bool, v: i32) -> usize
-    requires { ⌜ at + valueRoom ≤ length (now out) ⌝ }
-    ensures { λ r. ⌜ r ≤ at + valueRoom ⌝ }
+// A value of a list, behind so many.
+fn put_value(out: &mut [u8], at: usize, shown: usize, v: i32) -> usize
+    requires { ⌜ at + length (commaBehind shown ++ signedDecimal v) ≤ length (now out) ⌝ }
+    ensures { λ r. ⌜ Written (now (out .entry)) at (commaBehind shown ++ signedDecimal v) (now (out .exit)) r ⌝ }
 {
-    let behind = put_comma(out, at, begins);
-    put_value(out, behind, v)
+    let behind = put_comma(out, at, shown);
+    put_signed(out, behind, v)
 }
 
 // The first `count` values.
 pub fn put_values(out: &mut [u8], at: usize, values: [i32; STACK_DEPTH], count: u8) -> usize
-    requires { ⌜ at + valuesRoom ≤ length (now out) ⌝ }
-    ensures { λ r. ⌜ r ≤ at + valuesRoom ⌝ }
+    requires { ⌜ count ≤ stackDepth ⌝ }
+    requires { ⌜ at + length (valuesText (take count values)) ≤ length (now out) ⌝ }
+    ensures { λ r. ⌜ Written (now (out .entry)) at (valuesText (take count values)) (now (out .exit)) r ⌝ }
 {
-    let most = least(count, STACK_DEPTH);
     let mut next = at;
     let mut k = 0;
-    while k < most {
-        next = put_next(out, next, k == 0, values[k]);
+    while k < count as usize {
+        next = put_value(out, next, k, values[k]);
         k += 1;
     }
-    if next == at {
-        return put_bytes(out, at, b"-");
-    }
-    next
+    put_dash(out, next, k)
 }
 
-// Slot i with the end that it holds, a number and one; an empty slot is not shown.
-fn put_slot(out: &mut [u8], at: usize, begins: bool, i: usize, held: u8) -> usize
-    requires { ⌜ at + slotRoom ≤ length (now out) ⌝ }
-    ensures { λ r. ⌜ r ≤ at + slotRoom ⌝ }
+// A slot that holds an end, behind so many.
+fn put_slot(out: &mut [u8], at: usize, shown: usize, c: usize, e: u8) -> usize
+    requires { ⌜ at + length (commaBehind shown ++ slotText c e) ≤ length (now out) ⌝ }
+    ensures { λ r. ⌜ Written (now (out .entry)) at (commaBehind shown ++ slotText c e) (now (out .exit)) r ⌝ }
 {
-    if held == 0 {
-        return at;
-    }
-    let behind = put_comma(out, at, begins);
-    let named = put_number(out, behind, i as u64);
-    let parted = put_bytes(out, named, b":");
-    put_number(out, parted, (held - 1) as u64)
+    let behind = put_comma(out, at, shown);
+    let parted = put_decimal(out, behind, c as u64);
+    put_named(out, parted, b":", e as u64)
 }
 
-// The slots that hold an end.
+// The slots that hold an end: in its byte an end's number and one, 0 for an empty slot.
 pub fn put_slots(out: &mut [u8], at: usize, slots: [u8; SLOT_COUNT]) -> usize
-    requires { ⌜ at + slotsRoom ≤ length (now out) ⌝ }
-    ensures { λ r. ⌜ r ≤ at + slotsRoom ⌝ }
+    requires { ⌜ at + length (slotsText (map viewOptional slots)) ≤ length (now out) ⌝ }
+    ensures { λ r. ⌜ Written (now (out .entry)) at (slotsText (map viewOptional slots)) (now (out .exit)) r ⌝ }
 {
     let mut next = at;
-    let mut i = 0;
-    while i < SLOT_COUNT {
-        next = put_slot(out, next, next == at, i, slots[i]);
-        i += 1;
+    let mut shown = 0;
+    let mut c = 0;
+    while c < SLOT_COUNT {
+        if slots[c] != 0 {
+            next = put_slot(out, next, shown, c, slots[c] - 1);
+            shown += 1;
+        }
+        c += 1;
     }
-    if next == at {
-        return put_bytes(out, at, b"-");
-    }
-    next
+    put_dash(out, next, shown)
 }

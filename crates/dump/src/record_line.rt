@@ -1,63 +1,81 @@
 // The line of a record in use: running or waiting, its place, stack, environment and slots.
 ghost use mathlib.Core.Path.{_≡_};
-ghost use Prim.Native.Nat.{_+_, _*_, _≤_, _<_};
-ghost use lib.ListN.{length};
-ghost use Rattle.rules.specs.Limits.{recordCount};
-ghost use Rattle.rules.specs.Layout.{stateSize};
-ghost use Rattle.dump.specs.Rooms.{numberRoom, valuesRoom, slotsRoom, recordRoom};
-use crate::lists::put_number;
+ghost use mathlib.Core.List.{_++_};
+ghost use Prim.Native.Nat.{_+_, _≤_, _<_};
+ghost use lib.ListN.{length, take};
+ghost use Rattle.rules.specs.Limits.{recordCount, stackDepth, environmentDepth};
+ghost use Rattle.rules.specs.State.{recordAt};
+ghost use Rattle.rules.specs.Text.{text as textOf, decimal};
+ghost use Rattle.rules.specs.Layout.{stateSize, view};
+ghost use Rattle.keeping.specs.Demand3.{SoundMemory};
+ghost use Rattle.text.specs.Written.{Written};
+ghost use Rattle.dump.specs.Shown.{valuesText, registersText, recordText};
+ghost use Rattle.dump.specs.Pieces.{processIn};
+use crate::lists::put_named;
 use crate::lists::put_slots;
 use crate::lists::put_values;
 use registers::Registers;
 use registers::Status;
 use rules::Record;
+use rules::STACK_DEPTH;
 use text::put_bytes;
+use text::put_decimal;
 
-// The record's number and place, and what it does.
-fn put_head(out: &mut [u8], at: usize, r: u8, status: &[u8], place: u16) -> usize
-    requires { ⌜ length (now status) ≡ 9 ⌝ }
-    requires { ⌜ at + (2 * numberRoom + 10) ≤ length (now out) ⌝ }
-    ensures { λ r′. ⌜ r′ ≤ at + (2 * numberRoom + 10) ⌝ }
+// A word, and the first `count` values.
+fn put_named_values(
+    out: &mut [u8],
+    at: usize,
+    word: &[u8],
+    values: [i32; STACK_DEPTH],
+    count: u8,
+) -> usize
+    requires { ⌜ count ≤ stackDepth ⌝ }
+    requires { ⌜ at + length (now word ++ valuesText (take count values)) ≤ length (now out) ⌝ }
+    ensures { λ r. ⌜ Written (now (out .entry)) at (now (word .entry) ++ valuesText (take count values)) (now (out .exit)) r ⌝ }
 {
-    let named = put_bytes(out, at, b"R");
-    let numbered = put_number(out, named, r as u64);
-    let told = put_bytes(out, numbered, status);
-    put_number(out, told, place as u64)
+    let behind = put_bytes(out, at, word);
+    put_values(out, behind, values, count)
 }
 
-// What a process has.
+// What a process has, and the line's end.
 fn put_registers(out: &mut [u8], at: usize, g: Registers) -> usize
-    requires { ⌜ at + (2 * valuesRoom + slotsRoom + 20) ≤ length (now out) ⌝ }
-    ensures { λ r. ⌜ r ≤ at + (2 * valuesRoom + slotsRoom + 20) ⌝ }
+    requires { ⌜ (g .«stack_count» ≤ stackDepth) × (g .«environment_count» ≤ environmentDepth) ⌝ }
+    requires { ⌜ at + length (registersText (processIn g)) ≤ length (now out) ⌝ }
+    ensures { λ r. ⌜ Written (now (out .entry)) at (registersText (processIn g)) (now (out .exit)) r ⌝ }
 {
     let stack = g.stack;
     let environment = g.environment;
     let slots = g.slots;
-    let a = put_bytes(out, at, b" stack ");
-    let b = put_values(out, a, stack, g.stack_count);
-    let c = put_bytes(out, b, b" env ");
-    let d = put_values(out, c, environment, g.environment_count);
-    let e = put_bytes(out, d, b" slots ");
-    let f = put_slots(out, e, slots);
-    put_bytes(out, f, b"\n")
+    let behind_place = put_decimal(out, at, g.place as u64);
+    let behind_stack = put_named_values(out, behind_place, b" stack ", stack, g.stack_count);
+    let behind_both = put_named_values(out, behind_stack, b" env ", environment, g.environment_count);
+    let before_slots = put_bytes(out, behind_both, b" slots ");
+    let behind_slots = put_slots(out, before_slots, slots);
+    put_bytes(out, behind_slots, b"\n")
+}
+
+// The record's number, what it does, and what it has.
+fn put_line(out: &mut [u8], at: usize, r: u8, status: &[u8], g: Registers) -> usize
+    requires { ⌜ (g .«stack_count» ≤ stackDepth) × (g .«environment_count» ≤ environmentDepth) ⌝ }
+    requires { ⌜ at + length (textOf "R" ++ decimal r ++ now status ++ registersText (processIn g)) ≤ length (now out) ⌝ }
+    ensures { λ next. ⌜ Written (now (out .entry)) at (textOf "R" ++ decimal r ++ now (status .entry) ++ registersText (processIn g))
+        (now (out .exit)) next ⌝ }
+{
+    let numbered = put_named(out, at, b"R", r as u64);
+    let told = put_bytes(out, numbered, status);
+    put_registers(out, told, g)
 }
 
 // The line of record r; a free one has none.
 pub fn put_record(out: &mut [u8], at: usize, m: &[u8], r: u8) -> usize
-    requires { ⌜ (length (now m) ≡ stateSize) × (r < recordCount) ⌝ }
-    requires { ⌜ at + recordRoom ≤ length (now out) ⌝ }
-    ensures { λ r′. ⌜ r′ ≤ at + recordRoom ⌝ }
+    requires { ⌜ (length (now m) ≡ stateSize) × (r < recordCount) × SoundMemory (now m) ⌝ }
+    requires { ⌜ at + length (recordText r (recordAt (view (now m)) r)) ≤ length (now out) ⌝ }
+    ensures { λ next. ⌜ Written (now (out .entry)) at (recordText r (recordAt (view (now (m .entry))) r)) (now (out .exit)) next ⌝ }
 {
     let g = registers::load(m, Record(r));
     match registers::status_of(m, Record(r)) {
         Status::Free => at,
-        Status::Running => {
-            let behind = put_head(out, at, r, b" running ", g.place);
-            put_registers(out, behind, g)
-        }
-        Status::Waiting => {
-            let behind = put_head(out, at, r, b" waiting ", g.place);
-            put_registers(out, behind, g)
-        }
+        Status::Running => put_line(out, at, r, b" running ", g),
+        Status::Waiting => put_line(out, at, r, b" waiting ", g),
     }
 }

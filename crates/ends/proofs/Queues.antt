@@ -1,6 +1,6 @@
 -- The cells of one end's queue: as many as there are items, each fits, the first holds the head, and the last one's kind says whether it is
 -- a last item. Assumes nothing.
-use mathlib.Core.Path.{_≡_, refl}
+use mathlib.Core.Path.{_≡_, refl, ap, _∙_}
 use mathlib.Core.Bool.{false}
 use mathlib.Core.Option.{Option, none, some}
 use mathlib.Core.List.{List, [], _∷_, _++_, map, append-nil}
@@ -22,7 +22,7 @@ use Rattle.words.proofs.Pads.{getD-pad, pad-all}
 use Rattle.keeping.proofs.ViewLaws.{LastFits}
 use Rattle.memory.specs.Sections.{cellsOf}
 use Rattle.ends.specs.Items.{ItemFits, itemCell, cellItem}
-use Rattle.ends.specs.Ends.{EndFits, isGiven}
+use Rattle.ends.specs.Ends.{EndFits, isGiven, itemAt}
 use Rattle.ends.proofs.Items.{cell-item, cell-none}
 
 -- ---- lengths
@@ -72,6 +72,35 @@ head-cell free-end f = cell-none
 head-cell (used m [] none) f = cell-none
 head-cell (used m [] (some l)) f = cell-item (last l) (f .last-fits)
 head-cell (used m (d ∷ ds) l) f = cell-item (datum d) (f .within .1 0)
+
+-- ---- the item at an index
+
+-- an empty queue has none
+none-at : (m i : ℕ) → none ≡ itemAt i (used m [] none)
+unfolding itemAt
+none-at m zero = refl
+none-at m (suc i) = none-at m i
+
+queue-item : (m : ℕ) (ds : List Datum) (l : Option Last) → ((i : ℕ) → DatumWithin (getD ds i (handle 0))) → LastFits l
+    → (i : ℕ) → cellItem (getD (map datumCell ds ++ lastCells l) i 0) ≡ itemAt i (used m ds l)
+unfolding lastCells itemAt
+queue-item m [] none w h i = cell-none ∙ none-at m i
+queue-item m [] (some l) w h zero = cell-item (last l) h
+queue-item m [] (some l) w h (suc i) = cell-none ∙ none-at m i
+queue-item m (d ∷ ds) l w h zero = cell-item (datum d) (w 0)
+queue-item m (d ∷ ds) l w h (suc i) = queue-item m ds l (λ j. w (suc j)) h i
+
+pub item-cell : (x : EndState) → EndFits x → (i : ℕ) → i < queueDepth → cellItem (getD (cellsOf x) i 0) ≡ itemAt i x
+unfolding cellsOf queueCells itemAt
+item-cell x f i h = ap cellItem (getD-pad queueDepth 0 (queueCells x) i h) ∙ go x f
+  where
+    free-at : (i : ℕ) → none ≡ itemAt i free-end
+    free-at zero = refl
+    free-at (suc i) = free-at i
+
+    go : (x : EndState) → EndFits x → cellItem (getD (queueCells x) i 0) ≡ itemAt i x
+    go free-end f = cell-none ∙ free-at i
+    go (used m ds l) f = queue-item m ds l (f .within .1) (f .last-fits) i
 
 -- ---- the last item
 

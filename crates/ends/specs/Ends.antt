@@ -1,7 +1,8 @@
 -- What the contracts on one end ask of it, and say of its queue. Assumes nothing.
+use Prim.Native.Nat.{ℕ, zero, suc}
 use mathlib.Core.Bool.{Bool, true, false}
 use mathlib.Core.Option.{Option, none, some}
-use Rattle.rules.specs.State.{EndState, Last, lastOf}
+use Rattle.rules.specs.State.{EndState, Item, Last, headOf, behindHead, lastOf}
 use Rattle.rules.specs.Sound.{EndWithin}
 use Rattle.keeping.proofs.ViewLaws.{LastFits}
 
@@ -14,3 +15,8 @@ pub record EndFits (x : EndState) : Type 0 where
 abbrev pub isGiven : Option Last → Bool
 isGiven none = false
 isGiven (some l) = true
+
+-- the item at an index of the queue: the head, once so many heads are removed
+unfoldable pub itemAt : (index : ℕ) → EndState → Option Item
+itemAt zero x = headOf x
+itemAt (suc i) x = itemAt i (behindHead x)

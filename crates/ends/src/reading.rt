@@ -1,5 +1,5 @@
-// One end of the state memory: is it free, its partner, how many items are queued on it, what heads its queue, and whether its last item is
-// given. Each answer is that of the state whose layout the memory is.
+// One end of the state memory: is it free, its partner, how many items are queued on it, what heads its queue, what stands at
+// an index of it, and whether its last item is given. Each answer is that of the state whose layout the memory is.
 ghost use mathlib.Core.Path.{_≡_};
 ghost use Prim.Native.Nat.{_≤_, _<_};
 ghost use lib.ListN.{length};
@@ -10,7 +10,7 @@ ghost use Rattle.rules.specs.Layout.{stateSize, freeWord, layout};
 ghost use Rattle.keeping.proofs.LayoutLaws.{Sized};
 ghost use Rattle.ends.specs.Items.{headIn};
 ghost use Rattle.ends.specs.Sections.{countIn};
-ghost use Rattle.ends.specs.Ends.{EndFits, isGiven};
+ghost use Rattle.ends.specs.Ends.{EndFits, isGiven, itemAt};
 use crate::item::Head;
 use crate::item::item_in;
 use crate::section::get_cell;
@@ -59,6 +59,15 @@ pub fn head(m: &[u8], end: End) -> Head
         → headIn r ≡ headOf (endAt st (endNumber end))) ⌝ }
 {
     item_in(get_cell(m, end, 0))
+}
+
+// The item at an index of an end's queue, the head at 0; behind the last, none.
+pub fn item_at(m: &[u8], end: End, index: u8) -> Head
+    requires { ⌜ (length (now m) ≡ stateSize) × (endNumber end < endCount) × (index < queueDepth) ⌝ }
+    ensures { λ r. ⌜ ((st : State) → Sized st → now (m .entry) ≡ layout st → EndFits (endAt st (endNumber end))
+        → headIn r ≡ itemAt index (endAt st (endNumber end))) ⌝ }
+{
+    item_in(get_cell(m, end, index))
 }
 
 // Is the last item given, a split, a close or a wait?

@@ -20,8 +20,8 @@ use Rattle.runner.specs.declared.verdict.Verdict.{Verdict}
 use Rattle.runner.specs.declared.verdict.Verdict.the-variants.{Spent, Finished, Stuck}
 use Rattle.printed.specs.Meaning.{verdictIn, lastLine}
 use Rattle.printed.specs.Traced.{lineLimit, lastLimit}
-use Rattle.printed.proofs.Rooms.{record-text, end-text, fromPosition, fromKind, line-text}
-use Rattle.printed.proofs.Rooms.{fromSteps, fromNext, last-text, refusedWord, refused-text}
+use Rattle.printed.proofs.LineBytes.{record-text, end-text, fromPosition, fromKind, line-text}
+use Rattle.printed.proofs.LineBytes.{fromSteps, fromNext, last-text, refusedWord, refused-text}
 
 -- ---- the parts of a line
 

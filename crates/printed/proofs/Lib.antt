@@ -1,6 +1,6 @@
 pub mod Telling
 pub mod Going
-pub mod Rooms
+pub mod LineBytes
 pub mod Lengths
 pub mod RunLines
 pub mod Whole

@@ -39,3 +39,19 @@ pub signed-short : (z : ℤ) → SFits w32 z → length (signedDecimal z) ≤ 11
 unfolding signedDecimal text
 signed-short (pos n) f = let l = f .sfits in omega (arith, decimal-short 9 n (omega arith))
 signed-short (negsuc n) f = let l = f .sfits in omega (arith, decimal-short 9 (suc n) (omega arith))
+
+-- any number has as many digits as are spelled, at most
+spelled-short : (most n : ℕ) (low : List ℕ) → length (digitsBefore most n low) ≤ most + length low
+unfolding digitsBefore
+spelled-short zero n low = omega arith
+spelled-short (suc most) n low = go (n / 10) (spelled-short most (n / 10) ((48 + n % 10) ∷ low))
+  where
+    go : (q : ℕ) → length (digitsBefore most (n / 10) ((48 + n % 10) ∷ low)) ≤ most + suc (length low)
+        → length {A = ℕ} (elim q [ zero ↦ (48 + n % 10) ∷ low | suc k ↦ digitsBefore most (n / 10) ((48 + n % 10) ∷ low) ])
+        ≤ suc most + length low
+    go zero h = omega arith
+    go (suc k) h = omega (arith, h)
+
+pub decimal-room : (n : ℕ) → length (decimal n) ≤ 20
+unfolding decimal
+decimal-room n = omega (arith, spelled-short 20 n [])

@@ -1,4 +1,4 @@
--- Laws of printing: one text behind another, a text by another name, and a signed number by its bits. Assumes nothing.
+-- Laws of printing: one text behind another, a text by another name, room for a text, and a signed number by its bits. Assumes nothing.
 use mathlib.Core.Path.{_≡_, refl, sym, ap, _∙_}
 use mathlib.Core.List.{List, [], _∷_, _++_}
 use mathlib.Core.Bool.{true, false}
@@ -14,7 +14,7 @@ use mir.Syntax.{w32}
 use mir.Val.{ofZ, SFits}
 use Rattle.rules.specs.Text.{text, decimal, signedDecimal}
 use Rattle.words.specs.Parts.{putAt}
-use Rattle.words.proofs.Parts.{put-append}
+use Rattle.words.proofs.Parts.{length-put, put-append}
 use Rattle.text.specs.Written.{Written}
 
 -- one text behind another
@@ -30,6 +30,19 @@ written-as {m} {m′} {x} {y} {at} {p} e w = record {
   memory = w .memory ∙ ap (λ (t : List ℕ). putAt m at t) e;
   place = w .place ∙ ap (λ (t : List ℕ). at + length t) e;
 }
+
+-- room for a text by another name
+pub room-as : (at : ℕ) (x y m : List ℕ) → x ≡ y → at + length y ≤ length m → at + length x ≤ length m
+room-as at x y m e h = let l = ap length e in omega arith
+
+-- room for a text, and for what stands behind it once it is written
+pub room-first : (at : ℕ) (x y m : List ℕ) → at + length (x ++ y) ≤ length m → at + length x ≤ length m
+room-first at x y m h = omega (arith, length-append x y)
+
+pub room-rest : {m m′ x : List ℕ} {at p : ℕ} (y : List ℕ) → at + length (x ++ y) ≤ length m → Written m at x m′ p
+    → p + length y ≤ length m′
+room-rest {m} {m′} {x} {at} {p} y h w =
+    let l = ap length (w .memory) ∙ length-put m at x in omega (arith, length-append x y, w .place, l)
 
 -- nothing stands behind the end
 pub drop-all : (l : List ℕ) (n : ℕ) → length l ≤ n → drop n l ≡ []

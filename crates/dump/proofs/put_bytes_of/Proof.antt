@@ -1,6 +1,10 @@
--- `put_bytes_of`: hex is twice as long as the bytes. Assumes nothing.
+-- Hex, or `-`. Assumes nothing.
 use native.Mathlib.Omega.{arith}
+use Rattle.text.proofs.Texts.{written-as, room-as}
+use mathlib.Core.Path.{ap}
+use lib.ListN.{length}
 use Rattle.text.proofs.Hex.{length-text}
+use Rattle.dump.proofs.Parts.{no-code, some-code}
 use borrow.Author.Needs.{needs}
 use Rattle.dump.proofs.put_bytes_of.Statement.{statement}
 use Rattle.dump.proofs.put_bytes_of.Tie as tie
@@ -9,26 +13,36 @@ slice-aggregate-put-bytes : tie.Need-slice-aggregate-put-bytes
 slice-aggregate-put-bytes c = search needs
 
 put-bytes-requires : tie.Need-put-bytes-requires
-put-bytes-requires c κs = search needs
+put-bytes-requires c κs =
+    let at-if = c .before .before in
+    let at-start = at-if .before .before .before in
+    let a = at-start .args in
+    room-as (a .at) _ _ (a .out .now) (no-code (a .code .now) (at-if .if1 .taken)) (at-start .pre)
 
 same-length : tie.Need-same-length
 same-length c = search needs
 
 returns : tie.Need-returns
-returns c = search needs
+returns c =
+    let at-put = c .before .before in
+    let at-if = at-put .before .before .before in
+    written-as (no-code (at-if .before .before .before .args .code .now) (at-if .if1 .taken)) (at-put .put-bytes .ensures)
 
 put-hex-requires : tie.Need-put-hex-requires
-put-hex-requires c κs = search needs
+put-hex-requires c κs =
+    let at-if = c .before in
+    let at-start = at-if .before .before .before in
+    let code = at-start .args .code .now in
+    omega (arith, at-start .pre, length-text code, ap length (some-code code (at-if .if1 .left)))
 
 same-length-2 : tie.Need-same-length-2
 same-length-2 c = search needs
 
 returns-2 : tie.Need-returns-2
 returns-2 c =
-    let at-put-hex = c .before .before in
-    let l = length-text (at-put-hex .before .before .before .before .before .args .code .now) in
-    let p = at-put-hex .put-hex .ensures .place in
-    omega arith
+    let at-put = c .before .before in
+    let at-if = at-put .before .before in
+    written-as (some-code (at-if .before .before .before .args .code .now) (at-if .if1 .left)) (at-put .put-hex .ensures)
 
 pub put-bytes-of-spec : {M : Type 1} → statement M
 put-bytes-of-spec =

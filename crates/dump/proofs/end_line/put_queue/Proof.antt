@@ -1,27 +1,58 @@
--- `put_queue` puts one item after the other. The invariant: k items took the room of k items at most. Assumes nothing.
-use mathlib.Core.Path.{_≡_, refl}
-use Prim.Native.Nat.{_+_, _*_, _-_, _≤_}
+-- One item after the other. The invariant: the first k items stand. Assumes nothing.
+use mathlib.Core.Path.{_≡_, refl, _∙_}
+use mathlib.Core.List.{[]}
+use Prim.Native.Nat.{_-_, _≤_, _<_}
 use native.Mathlib.Omega.{arith}
-use lib.ListN.{length}
-use Rattle.dump.specs.Rooms.{itemRoom}
+use lib.ListN.{length, take}
+use Rattle.rules.specs.State.{endAt}
+use Rattle.rules.specs.Layout.{view}
+use Rattle.stepping.proofs.Steps.{memory-sized}
+use Rattle.text.specs.Written.{Written}
+use Rattle.dump.specs.Pieces.{itemTexts}
+use Rattle.dump.proofs.Parts.{written-none}
+use Rattle.dump.proofs.OneByOne.{soFar, index-room, index-more, index-dash-room, index-done}
+use Rattle.dump.proofs.Queued.{items-count}
 use borrow.Author.Needs.{needs}
 use Rattle.dump.proofs.end_line.put_queue.Statement.{statement}
 use Rattle.dump.proofs.end_line.put_queue.Tie as tie
 
 abbrev Inv-loop : tie.InvT-loop
-Inv-loop out₀ at m e count most next₀ k₀ t9 out next k = (k ≤ most) × (length out ≡ length out₀) × (next ≤ at + itemRoom * k)
+Inv-loop out₀ at m e count next₀ k₀ out next k =
+    (k ≤ count) × (length out ≡ length out₀) × Written out₀ at (soFar (take k (itemTexts (endAt (view m) e)))) out next
 
 abbrev μ-loop : tie.MeasureT-loop
-μ-loop out₀ at m e count most next₀ k₀ t9 out next k = most - k
+μ-loop out₀ at m e count next₀ k₀ out next k = count - k
 
-least-requires : tie.Need-least-requires Inv-loop μ-loop
-least-requires c κs = search needs
+-- as many items as are queued
+counted : (c : tie.After-queued Inv-loop μ-loop)
+    → let a = c .before .before .before .args in length (itemTexts (endAt (view (a .m .now)) (a .e))) ≡ c .queued .result
+counted c =
+    let a = c .before .before .before .args in
+    let m = a .m .now in
+    let s = c .before .before .before .pre .0 .2 in
+    let is = c .queued .ensures .1 (view m) (memory-sized m s) (s .laid-out) in
+    omega (arith, is, items-count (endAt (view m) (a .e)))
+
+queued-requires : tie.Need-queued-requires Inv-loop μ-loop
+queued-requires c κs = search needs
+
+cast-count : tie.Need-cast-count Inv-loop μ-loop
+cast-count c = search needs
 
 loop-holds : tie.Need-loop-holds Inv-loop μ-loop
-loop-holds c = (omega arith, refl, omega arith)
+unfolding soFar
+loop-holds c = (omega arith, refl, written-none (c .before .before .before .args .out .now) (c .before .before .before .args .at))
 
 put-next-requires : tie.Need-put-next-requires Inv-loop μ-loop
-put-next-requires c κs = search needs
+put-next-requires c κs =
+    let at-loop = c .before .before in
+    let at-queued = at-loop .before in
+    let at-start = at-queued .before .before .before in
+    let a = at-start .args in
+    let all = itemTexts (endAt (view (a .m .now)) (a .e)) in
+    let l = at-loop .loop in
+    let inside : l .k < length all = omega (arith, c .before .loop-test .taken, counted at-queued) in
+    (at-start .pre .0, (inside, index-room all (l .k) (l .inv .2) [] inside (at-start .pre .1)))
 
 add-k : tie.Need-add-k Inv-loop μ-loop
 add-k c = search needs
@@ -30,25 +61,41 @@ loop-less : tie.Need-loop-less Inv-loop μ-loop
 loop-less c = search needs
 
 loop-again : tie.Need-loop-again Inv-loop μ-loop
-loop-again c = (omega arith, omega arith, omega arith)
+loop-again c =
+    let at-put = c .before .before in
+    let at-loop = at-put .before .before .before in
+    let at-queued = at-loop .before in
+    let a = at-queued .before .before .before .args in
+    let all = itemTexts (endAt (view (a .m .now)) (a .e)) in
+    let l = at-loop .loop in
+    let below = at-put .before .before .loop-test .taken in
+    let inside : l .k < length all = omega (arith, below, counted at-queued) in
+    (omega (arith, below), omega arith, index-more all (l .k) (l .inv .2) [] inside (at-put .put-next .ensures))
 
-slice-aggregate-put-bytes : tie.Need-slice-aggregate-put-bytes Inv-loop μ-loop
-slice-aggregate-put-bytes c = search needs
-
-put-bytes-requires : tie.Need-put-bytes-requires Inv-loop μ-loop
-put-bytes-requires c κs = search needs
+put-dash-requires : tie.Need-put-dash-requires Inv-loop μ-loop
+put-dash-requires c κs =
+    let at-loop = c .before .before in
+    let at-queued = at-loop .before in
+    let at-start = at-queued .before .before .before in
+    let a = at-start .args in
+    let all = itemTexts (endAt (view (a .m .now)) (a .e)) in
+    let l = at-loop .loop in
+    let enough : length all ≡ l .k = omega (arith, c .before .loop-test .left, l .inv .0, counted at-queued) in
+    index-dash-room all (l .k) (l .inv .2) enough (at-start .pre .1)
 
 same-length : tie.Need-same-length Inv-loop μ-loop
 same-length c = search needs
 
 returns : tie.Need-returns Inv-loop μ-loop
-returns c = search needs
-
-same-length-2 : tie.Need-same-length-2 Inv-loop μ-loop
-same-length-2 c = search needs
-
-returns-2 : tie.Need-returns-2 Inv-loop μ-loop
-returns-2 c = search needs
+returns c =
+    let at-dash = c .before .before in
+    let at-loop = at-dash .before .before .before in
+    let at-queued = at-loop .before in
+    let a = at-queued .before .before .before .args in
+    let all = itemTexts (endAt (view (a .m .now)) (a .e)) in
+    let l = at-loop .loop in
+    let enough : length all ≡ l .k = omega (arith, at-dash .before .before .loop-test .left, l .inv .0, counted at-queued) in
+    index-done all (l .k) (l .inv .2) enough (at-dash .put-dash .ensures)
 
 pub put-queue-spec : {M : Type 1} → statement M
 put-queue-spec =
@@ -56,15 +103,13 @@ put-queue-spec =
     (tie.spec
     Inv-loop
     μ-loop
-    least-requires
+    queued-requires
+    cast-count
     loop-holds
     put-next-requires
     add-k
     loop-less
     loop-again
-    slice-aggregate-put-bytes
-    put-bytes-requires
+    put-dash-requires
     same-length
-    returns
-    same-length-2
-    returns-2)
+    returns)

@@ -6,10 +6,9 @@ use mir.Facts.{toZ-ofZ}
 use borrow.Author.Needs.{needs}
 use Rattle.rules.specs.Text.{text}
 use Rattle.rules.specs.Printed.{kindText}
-use Rattle.text.proofs.Texts.{written-as}
+use Rattle.text.proofs.Texts.{written-as, room-as}
 use Rattle.printed.specs.declared.kinds.Kind.{Kind}
 use Rattle.printed.specs.Meaning.{kindIn}
-use Rattle.printed.proofs.Rooms.{room-as}
 use Rattle.printed.proofs.lines.put_kind.Statement.{statement}
 use Rattle.printed.proofs.lines.put_kind.Tie as tie
 

@@ -5,9 +5,9 @@ use lib.ListN.{length}
 use borrow.Author.Needs.{needs}
 use Rattle.rules.specs.Text.{decimal}
 use Rattle.rules.specs.Printed.{verdictText}
-use Rattle.text.proofs.Texts.{written-more, written-as}
+use Rattle.text.proofs.Texts.{written-more, written-as, room-as, room-first, room-rest}
 use Rattle.printed.specs.Meaning.{verdictIn}
-use Rattle.printed.proofs.Rooms.{room-as, room-first, room-rest, fromSteps, fromNext, last-text}
+use Rattle.printed.proofs.LineBytes.{fromSteps, fromNext, last-text}
 use Rattle.printed.proofs.lines.put_last.Statement.{statement}
 use Rattle.printed.proofs.lines.put_last.Tie as tie
 

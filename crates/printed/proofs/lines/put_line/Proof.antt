@@ -11,9 +11,9 @@ use borrow.Author.Needs.{needs}
 use Rattle.rules.specs.Text.{decimal}
 use Rattle.rules.specs.Printed.{positionText, kindText}
 use Rattle.text.specs.Written.{Written}
-use Rattle.text.proofs.Texts.{written-more, written-as}
+use Rattle.text.proofs.Texts.{written-more, written-as, room-as, room-first, room-rest}
 use Rattle.printed.specs.Meaning.{printedOf}
-use Rattle.printed.proofs.Rooms.{room-as, room-first, room-rest, fromKind, fromPosition, line-text}
+use Rattle.printed.proofs.LineBytes.{fromKind, fromPosition, line-text}
 use Rattle.printed.proofs.lines.put_line.Statement.{statement}
 use Rattle.printed.proofs.lines.put_line.Tie as tie
 

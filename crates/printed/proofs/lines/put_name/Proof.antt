@@ -3,10 +3,9 @@ use mathlib.Core.Path.{_≡_, sym, ap}
 use borrow.Author.Needs.{needs}
 use Rattle.rules.specs.Text.{text}
 use Rattle.rules.specs.Printed.{nameText}
-use Rattle.text.proofs.Texts.{written-as}
+use Rattle.text.proofs.Texts.{written-as, room-as}
 use Rattle.printed.specs.declared.kinds.Name.{Name}
 use Rattle.printed.specs.Meaning.{nameIn}
-use Rattle.printed.proofs.Rooms.{room-as}
 use Rattle.printed.proofs.lines.put_name.Statement.{statement}
 use Rattle.printed.proofs.lines.put_name.Tie as tie
 

@@ -4,8 +4,7 @@ use mir.Syntax.{w32}
 use mir.Facts.{toZ-ofZ}
 use borrow.Author.Needs.{needs}
 use Rattle.rules.specs.Text.{signedDecimal}
-use Rattle.text.proofs.Texts.{written-more, written-as}
-use Rattle.printed.proofs.Rooms.{room-first, room-rest}
+use Rattle.text.proofs.Texts.{written-more, written-as, room-first, room-rest}
 use Rattle.printed.proofs.lines.put_numbered.Statement.{statement}
 use Rattle.printed.proofs.lines.put_numbered.Tie as tie
 

@@ -4,8 +4,8 @@ use Prim.Native.Nat.{_-_}
 use borrow.Author.Needs.{needs}
 use Rattle.rules.specs.Limits.{recordCount}
 use Rattle.rules.specs.Text.{decimal}
-use Rattle.text.proofs.Texts.{written-more, written-as}
-use Rattle.printed.proofs.Rooms.{room-as, room-first, room-rest, record-text, end-text}
+use Rattle.text.proofs.Texts.{written-more, written-as, room-as, room-first, room-rest}
+use Rattle.printed.proofs.LineBytes.{record-text, end-text}
 use Rattle.printed.proofs.lines.put_position.Statement.{statement}
 use Rattle.printed.proofs.lines.put_position.Tie as tie
 

@@ -4,8 +4,8 @@ use Prim.Native.Nat.{_+_, _≤_}
 use lib.ListN.{length}
 use borrow.Author.Needs.{needs}
 use Rattle.rules.specs.Text.{decimal}
-use Rattle.text.proofs.Texts.{written-more, written-as}
-use Rattle.printed.proofs.Rooms.{room-as, room-first, room-rest, refusedWord, refused-text}
+use Rattle.text.proofs.Texts.{written-more, written-as, room-as, room-first, room-rest}
+use Rattle.printed.proofs.LineBytes.{refusedWord, refused-text}
 use Rattle.printed.proofs.lines.put_refused.Statement.{statement}
 use Rattle.printed.proofs.lines.put_refused.Tie as tie
 

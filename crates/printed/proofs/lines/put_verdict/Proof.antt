@@ -3,10 +3,9 @@ use mathlib.Core.Path.{_≡_, sym, ap}
 use borrow.Author.Needs.{needs}
 use Rattle.rules.specs.Text.{text}
 use Rattle.rules.specs.Printed.{verdictText}
-use Rattle.text.proofs.Texts.{written-as}
+use Rattle.text.proofs.Texts.{written-as, room-as}
 use Rattle.runner.specs.declared.verdict.Verdict.{Verdict}
 use Rattle.printed.specs.Meaning.{verdictIn}
-use Rattle.printed.proofs.Rooms.{room-as}
 use Rattle.printed.proofs.lines.put_verdict.Statement.{statement}
 use Rattle.printed.proofs.lines.put_verdict.Tie as tie
 

@@ -1,33 +1,14 @@
--- Room for a text in a buffer, part after part, and the texts of the printing program by their bytes. Assumes nothing.
-use mathlib.Core.Path.{_≡_, refl, sym, ap, _∙_}
+-- The texts of the printing program by their bytes. Assumes nothing.
+use mathlib.Core.Path.{_≡_, refl, sym}
 use mathlib.Core.List.{List, [], _∷_, _++_, append-assoc}
 use mathlib.Core.Option.{some}
-use Prim.Native.Nat.{ℕ, _+_, _-_, _≤_, _<_}
-use native.Mathlib.Omega.{arith}
+use Prim.Native.Nat.{ℕ, _-_, _≤_, _<_}
 use borrow.Author.Tests.{lt-ltb, le-ltb}
-use lib.ListN.{length, length-append}
 use Rattle.rules.specs.Limits.{recordCount}
 use Rattle.rules.specs.Text.{text, decimal}
 use Rattle.rules.specs.Printed.{Printed, positionText, kindText, lineText, verdictText, lastText}
-use Rattle.words.proofs.Parts.{length-put}
-use Rattle.text.specs.Written.{Written}
 use Rattle.runner.specs.declared.verdict.Verdict.{Verdict}
 use Rattle.printed.specs.Meaning.{verdictIn, lastLine}
-
--- ---- room
-
--- for a text by another name
-pub room-as : (at : ℕ) (x y m : List ℕ) → x ≡ y → at + length y ≤ length m → at + length x ≤ length m
-room-as at x y m e h = let l = ap length e in omega arith
-
--- for a text, and for what stands behind it once it is written
-pub room-first : (at : ℕ) (x y m : List ℕ) → at + length (x ++ y) ≤ length m → at + length x ≤ length m
-room-first at x y m h = omega (arith, length-append x y)
-
-pub room-rest : {m m′ x : List ℕ} {at p : ℕ} (y : List ℕ) → at + length (x ++ y) ≤ length m → Written m at x m′ p
-    → p + length y ≤ length m′
-room-rest {m} {m′} {x} {at} {p} y h w =
-    let l = ap length (w .memory) ∙ length-put m at x in omega (arith, length-append x y, w .place, l)
 
 -- ---- who was asked
 
