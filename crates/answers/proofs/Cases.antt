@@ -1,4 +1,4 @@
--- What the answers of the machine, the runner and the writer stand for in the answer's text. Assumes nothing.
+-- What the answers of the runner and of the writer and the tests of the code stand for in the texts and in the memory. Assumes nothing.
 use mathlib.Core.Path.{_≡_, refl, sym, ap, _∙_}
 use mathlib.Core.Bool.{true, false}
 use mathlib.Core.List.{List, _++_}
@@ -16,42 +16,26 @@ use Rattle.rules.specs.Layout.{stateSize, view}
 use Rattle.rules.specs.Calls.{soundBytes, outputOr, writeAnswer, write}
 use Rattle.rules.specs.Numbers.{replyTo}
 use Rattle.rules.specs.Text.{text}
-use Rattle.rules.specs.declared.Reply.{Reply}
 use Rattle.rules.specs.declared.Reply.the-variants.{Done, Refused}
 use Rattle.rules.proofs.Rows.{all-passed}
 use Rattle.words.specs.Parts.{putAt}
 use Rattle.words.proofs.Pads.{length-pad}
 use Rattle.image.proofs.Writes.{length-blocks}
-use Rattle.runner.specs.declared.verdict.Verdict.{Verdict}
-use Rattle.runner.specs.declared.verdict.Verdict.the-variants.{Spent}
 use Rattle.runner.specs.declared.running.Ran.{Ran}
 use Rattle.runner.specs.declared.running.Ran.the-variants as ran
-use Rattle.runner.specs.Runs.{verdictCode, ranReply}
+use Rattle.runner.specs.Runs.{ranReply}
 use Rattle.dump.specs.Shown.{stateText}
 use Rattle.printed.specs.Meaning.{verdictIn}
+use Rattle.printed.proofs.Whole.{named-back, isRefused, refusalOf}
 use Rattle.answers.specs.Answers.{numberLine, hexLine, imageRoom, writtenText, writeText, madeText, ranText}
 use Rattle.answers.specs.Answers.{dumpText, peekText, pokeText, poked}
 
 -- ---- a run
 
--- 1 where it was made, its number, and what was made
-abbrev isMade : Ran → ℕ
-isMade (ran.Made steps next v) = 1
-isMade (ran.Refused n) = 0
-
-abbrev numberIn : Ran → ℕ
-numberIn (ran.Made steps next v) = 0
-numberIn (ran.Refused n) = n
-
+-- what is printed for it
 abbrev textIn : Ran → List ℕ
 textIn (ran.Made steps next v) = madeText steps next (verdictIn v)
 textIn (ran.Refused n) = numberLine (text "run: ") n
-
--- the word of a verdict of the code is that of the verdict
-named-back : (v : run.Verdict) → verdictIn (verdictCode v) ≡ v
-named-back run.spent = refl
-named-back run.finished = refl
-named-back run.stuck = refl
 
 reply-text : (a : Answer run.Ran) → textIn (ranReply a) ≡ ranText a
 reply-text (refused n) = refl
@@ -63,17 +47,9 @@ run-text a {given} {shown} is e = ap textIn (sym is ∙ e) ∙ reply-text a
 
 -- ---- a write
 
--- 1 for a refusal, and its number
-abbrev isRefused : Reply → ℕ
-isRefused Done = 0
-isRefused (Refused n) = 1
-
-abbrev refusalOf : Reply → ℕ
-refusalOf Done = 0
-refusalOf (Refused n) = n
-
 -- refused: the number
-pub write-refused : (code : List ℕ) (a : Answer (List ℕ)) (n : ℕ) → Refused n ≡ replyTo a → numberLine (text "write ") n ≡ writtenText code a
+pub write-refused : (code : List ℕ) (a : Answer (List ℕ)) (n : ℕ) → Refused n ≡ replyTo a
+    → numberLine (text "write ") n ≡ writtenText code a
 write-refused code (refused k) n e = ap (λ (j : ℕ). numberLine (text "write ") j) (ap refusalOf e)
 write-refused code (done x) n e = absurd (omega (arith, ap isRefused e))
 

@@ -1,22 +1,20 @@
 -- Every answer fits the output buffer. Assumes nothing.
-use mathlib.Core.Path.{_≡_, refl, sym, ap, _∙_, subst}
+use mathlib.Core.Path.{_≡_, refl, ap}
 use mathlib.Core.Bool.{Bool, true, false}
-use mathlib.Core.List.{List, [], _∷_, _++_}
-use Prim.Native.Nat.{ℕ, zero, suc, _+_, _*_, _/_, _%_, _≤_, min}
+use mathlib.Core.List.{List}
+use Prim.Native.Nat.{ℕ, _+_, _≤_}
 use native.Mathlib.Omega.{arith}
 use lib.ListN.{length, take, drop, length-append, length-take}
 use lib.Dec.{leb}
 use borrow.Author.Tests.{leb-true}
-use Rattle.rules.specs.State.{State}
 use Rattle.rules.specs.Refusal.{Answer, refused, done}
 use Rattle.rules.specs.Run.{Verdict, spent, finished, stuck, Ran}
 use Rattle.rules.specs.Image.{imageOf}
-use Rattle.rules.specs.Layout.{stateSize, view}
+use Rattle.rules.specs.Layout.{stateSize}
 use Rattle.rules.specs.Calls as calls
 use Rattle.rules.specs.Calls.{soundBytes, writeAnswer, callRecord, callEnd, FreeEnds, callFreeEnds, runAnswer}
 use Rattle.rules.specs.Text.{text}
 use Rattle.rules.specs.Printed.{verdictText}
-use Rattle.keeping.specs.Demand3.{SoundMemory}
 use Rattle.keeping.proofs.Memories.{memory-of-test}
 use Rattle.text.proofs.Shortness.{decimal-room}
 use Rattle.commands.specs.Asked.{Asked, unknown, free, dump, load, write, record-step, end-step, run, peek, poke}
@@ -24,8 +22,9 @@ use Rattle.commands.specs.Asked.{lineLimit, firstWord, when}
 use Rattle.dump.proofs.Lengths.{state-room}
 use Rattle.answers.specs.Sizes.{outputSize}
 use Rattle.answers.specs.Answers.{numberLine, hexLine, loadText, imageRoom, writtenText, writeText, stepText, recordText, endText}
-use Rattle.answers.specs.Answers.{madeText, ranText, runText, freeEndsText, freeText, dumpText, peekText, pokeText, answerText}
-use Rattle.answers.proofs.Texts.{number-length, hex-length, verdict-length, step-length, made-length, counted-length, unknown-length}
+use Rattle.answers.specs.Answers.{ranText, runText, freeEndsText, freeText, dumpText, peekText, pokeText, answerText}
+use Rattle.answers.proofs.Texts.{number-length, hex-length, verdict-length, step-length, made-length, counted-length}
+use Rattle.answers.proofs.Texts.{unknown-length}
 use Rattle.answers.proofs.Cases.{image-length, image-short, write-done, dump-unsound, dump-sound}
 
 -- a number has at most twenty digits

@@ -1,5 +1,5 @@
--- The console's answers: what a line is answered with, and what it does to the state memory. One definition for each command of the grammar
--- (`commands`, specs/Asked.antt), in its order, through the requests of document 01 (`rules`, specs/Calls.antt). Every answer ends with a
+-- The console's answers: what a line is answered with, and what it does to the state memory. One definition for each command of the
+-- grammar (`commands`, specs/Asked.antt), through the requests of document 01 (`rules`, specs/Calls.antt). Every answer ends with a
 -- newline. Assumes nothing.
 use Prim.Native.Nat.{ℕ, _+_, _*_}
 use mathlib.Core.List.{List, _++_}
@@ -109,7 +109,6 @@ unknownText line = text "? " ++ take lineLimit (firstWord line) ++ text "\n"
 
 -- what is answered to a line that asks for this
 abbrev pub answerText : (line state : List ℕ) → Asked → List ℕ
-answerText line state unknown = unknownText line
 answerText line state (load image) = loadText state image
 answerText line state (write code) = writeText code
 answerText line state (record-step n) = recordText state n
@@ -119,10 +118,10 @@ answerText line state free = freeText state
 answerText line state dump = dumpText state
 answerText line state (peek at count) = peekText state at count
 answerText line state (poke at bytes) = pokeText state at bytes
+answerText line state unknown = unknownText line
 
 -- the state memory afterwards
 abbrev pub stateAfter : (state : List ℕ) → Asked → List ℕ
-stateAfter state unknown = state
 stateAfter state (load image) = calls.load state image .memory
 stateAfter state (write code) = state
 stateAfter state (record-step n) = callRecord state n .memory
@@ -132,3 +131,4 @@ stateAfter state free = state
 stateAfter state dump = state
 stateAfter state (peek at count) = state
 stateAfter state (poke at bytes) = poked state at bytes
+stateAfter state unknown = state

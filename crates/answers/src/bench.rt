@@ -1,5 +1,5 @@
-// The answers of the bench: the state memory in words and in bytes, bytes written into it, and a line that is not understood. What each says
-// and does is defined in specs/Answers.antt; a function asks for just the room that its answer takes.
+// The answers of the bench: the state memory in words and in bytes, bytes written into it, and a line that is not understood. What each
+// says and does is defined in specs/Answers.antt; a function asks for just the room that its answer takes.
 ghost use mathlib.Core.Path.{_≡_};
 ghost use Prim.Native.Nat.{_≤_};
 ghost use lib.ListN.{length};
@@ -7,10 +7,10 @@ ghost use Rattle.rules.specs.Layout.{stateSize};
 ghost use Rattle.text.specs.Written.{Written};
 ghost use Rattle.answers.specs.Sizes.{byteSize};
 ghost use Rattle.answers.specs.Answers.{dumpText, peekText, pokeText, poked, unknownText};
-use commands::LINE_LIMIT;
 use crate::lines::front;
 use crate::lines::put_hex_line;
 use crate::lines::put_number_line;
+use commands::LINE_LIMIT;
 use rules::UNSOUND;
 use rules::places::STATE_SIZE;
 use text::length_before;
@@ -18,6 +18,7 @@ use text::put_bytes;
 
 const SPACE: u8 = 32;
 
+// `dump`: the state in words, 1 where the memory is not sound.
 pub fn dump(state: &[u8], out: &mut [u8]) -> usize
     requires { ⌜ length (now state) ≡ stateSize ⌝ }
     requires { ⌜ length (dumpText (now state)) ≤ length (now out) ⌝ }
@@ -29,6 +30,7 @@ pub fn dump(state: &[u8], out: &mut [u8]) -> usize
     dump::put_state(out, 0, state)
 }
 
+// `peek AT COUNT`: bytes of the memory in hex.
 pub fn peek(at: u32, count: u32, state: &[u8], out: &mut [u8]) -> usize
     requires { ⌜ length (now state) ≡ stateSize ⌝ }
     requires { ⌜ length (peekText (now state) at count) ≤ length (now out) ⌝ }
@@ -42,6 +44,7 @@ pub fn peek(at: u32, count: u32, state: &[u8], out: &mut [u8]) -> usize
     put_hex_line(out, 0, &state[from..to])
 }
 
+// `poke AT HEX`: bytes go into the memory.
 pub fn poke(at: u32, bytes: &[u8], state: &mut [u8], out: &mut [u8]) -> usize
     requires { ⌜ (length (now state) ≡ stateSize) × (length (now bytes) ≤ byteSize) ⌝ }
     requires { ⌜ length (pokeText (now state) at (now bytes)) ≤ length (now out) ⌝ }
@@ -56,7 +59,7 @@ pub fn poke(at: u32, bytes: &[u8], state: &mut [u8], out: &mut [u8]) -> usize
     put_bytes(out, 0, b"poke: ok\n")
 }
 
-// What is not understood.
+// What is not understood: the line's first word.
 pub fn unknown(line: &[u8], out: &mut [u8]) -> usize
     requires { ⌜ length (unknownText (now line)) ≤ length (now out) ⌝ }
     ensures { λ r. ⌜ Written (now (out .entry)) 0 (unknownText (now (line .entry))) (now (out .exit)) r ⌝ }

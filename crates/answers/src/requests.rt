@@ -1,5 +1,5 @@
-// The answers to the requests of document 01: load, write, a step of a record and at an end, a run, the free ends. What each says and does is
-// defined in specs/Answers.antt; a function asks for just the room that its answer takes.
+// The answers to the requests of document 01: load, write, a step of a record and at an end, a run, the free ends. What each says and does
+// is defined in specs/Answers.antt; a function asks for just the room that its answer takes.
 ghost use mathlib.Core.Path.{_≡_};
 ghost use Prim.Native.Nat.{_*_, _≤_};
 ghost use lib.ListN.{length};
@@ -25,6 +25,7 @@ use text::put_decimal;
 // The bytes of sixteen blocks, the longest image.
 const IMAGE_ROOM: usize = 8192;
 
+// `load HEX`: the method of an image.
 pub fn load(image: &[u8], state: &mut [u8], out: &mut [u8]) -> usize
     requires { ⌜ length (loadText (now state) (now image)) ≤ length (now out) ⌝ }
     ensures says { λ r. ⌜ Written (now (out .entry)) 0 (loadText (now (state .entry)) (now (image .entry))) (now (out .exit)) r ⌝ }
@@ -42,6 +43,7 @@ fn image_size(code: usize) -> usize
     (4 + code + 509) / 510 * 512
 }
 
+// `write HEX`: the image of a code.
 pub fn write(code: &[u8], out: &mut [u8]) -> usize
     requires { ⌜ length (writeText (now code)) ≤ length (now out) ⌝ }
     ensures { λ r. ⌜ Written (now (out .entry)) 0 (writeText (now (code .entry))) (now (out .exit)) r ⌝ }
@@ -67,6 +69,7 @@ fn put_step(out: &mut [u8], name: &[u8], n: u32, reply: Reply) -> usize
     put_number_line(out, behind, b": ", number_of(reply))
 }
 
+// `R n`: a record is asked to step.
 pub fn step_record(n: u32, state: &mut [u8], out: &mut [u8]) -> usize
     requires { ⌜ length (recordText (now state) n) ≤ length (now out) ⌝ }
     ensures says { λ r. ⌜ Written (now (out .entry)) 0 (recordText (now (state .entry)) n) (now (out .exit)) r ⌝ }
@@ -76,6 +79,7 @@ pub fn step_record(n: u32, state: &mut [u8], out: &mut [u8]) -> usize
     put_step(out, b"R ", n, reply)
 }
 
+// `E n`: an end is asked to step.
 pub fn step_end(n: u32, state: &mut [u8], out: &mut [u8]) -> usize
     requires { ⌜ length (endText (now state) n) ≤ length (now out) ⌝ }
     ensures says { λ r. ⌜ Written (now (out .entry)) 0 (endText (now (state .entry)) n) (now (out .exit)) r ⌝ }
@@ -97,6 +101,7 @@ fn put_made(out: &mut [u8], steps: u16, next: u8, verdict: Verdict) -> usize
     put_verdict_line(out, behind, verdict)
 }
 
+// `run BUDGET START`.
 pub fn run(budget: u16, start: u32, state: &mut [u8], out: &mut [u8]) -> usize
     requires { ⌜ length (runText (now state) budget start) ≤ length (now out) ⌝ }
     ensures says { λ r. ⌜ Written (now (out .entry)) 0 (runText (now (state .entry)) budget start) (now (out .exit)) r ⌝ }
@@ -122,6 +127,7 @@ fn put_counted(out: &mut [u8], count: u8, lowest: u8) -> usize
     put_number_line(out, behind, b" ", lowest as u64)
 }
 
+// `free`: the free ends.
 pub fn free(state: &[u8], out: &mut [u8]) -> usize
     requires { ⌜ length (freeText (now state)) ≤ length (now out) ⌝ }
     ensures { λ r. ⌜ Written (now (out .entry)) 0 (freeText (now (state .entry))) (now (out .exit)) r ⌝ }

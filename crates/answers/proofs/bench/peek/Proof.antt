@@ -1,11 +1,10 @@
 -- The part of the memory, or that there is none. Assumes nothing.
-use mathlib.Core.Path.{ap, _∙_}
+use mathlib.Core.Path.{ap}
 use native.Mathlib.Omega.{arith}
 use lib.ListN.{length}
 use borrow.Author.Needs.{needs}
 use Rattle.rules.specs.Text.{text}
 use Rattle.text.proofs.Texts.{written-as}
-use Rattle.answers.specs.Answers.{hexLine}
 use Rattle.answers.proofs.Cases.{peek-outside, peek-inside}
 use Rattle.answers.proofs.bench.peek.Statement.{statement}
 use Rattle.answers.proofs.bench.peek.Tie as tie

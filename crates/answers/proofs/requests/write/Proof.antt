@@ -1,18 +1,17 @@
 -- The number, and the image where there is one. Assumes nothing.
 use mathlib.Core.Path.{_≡_, refl, sym, ap, _∙_}
-use mathlib.Core.List.{List, _++_}
-use Prim.Native.Nat.{ℕ, _*_, _≤_}
+use mathlib.Core.List.{List}
+use Prim.Native.Nat.{ℕ}
 use native.Mathlib.Omega.{arith}
 use lib.ListN.{length, take, length-append}
 use lib.Seq.{length-take-le}
 use borrow.Author.Needs.{needs}
-use Rattle.rules.specs.Limits.{codeLimit}
-use Rattle.rules.specs.Image.{blockSize, blockCount, imageOf}
+use Rattle.rules.specs.Image.{imageOf}
 use Rattle.rules.specs.Calls.{writeAnswer}
 use Rattle.rules.specs.Text.{text}
 use Rattle.text.proofs.Texts.{written-more, written-as}
 use Rattle.answers.specs.Answers.{numberLine, hexLine, imageRoom, writeText}
-use Rattle.answers.proofs.Cases.{write-refused, Written-image, image-done, image-length, image-short}
+use Rattle.answers.proofs.Cases.{write-refused, Written-image, image-done}
 use Rattle.answers.proofs.requests.write.Statement.{statement}
 use Rattle.answers.proofs.requests.write.Tie as tie
 
@@ -119,8 +118,8 @@ returns c =
     let at-size = at-put .before .before .before in
     let at-line = at-size .before .before .before in
     let at-told = at-line .before .before .before in
-    written-as (done at-told .text-is)
-    (written-more (at-line .put-number-line .ensures) (written-as (ap (λ (bytes : List ℕ). hexLine bytes) (front at-size)) (at-put .put-hex-line .ensures)))
+    let hex = written-as (ap (λ (bytes : List ℕ). hexLine bytes) (front at-size)) (at-put .put-hex-line .ensures) in
+    written-as (done at-told .text-is) (written-more (at-line .put-number-line .ensures) hex)
 
 same-length-2 : tie.Need-same-length-2
 same-length-2 c = search needs
