@@ -5,3 +5,4 @@ pub mod HeldSlots
 pub mod Processes
 pub mod Queued
 pub mod Lengths
+pub mod ShownFacts

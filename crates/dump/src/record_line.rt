@@ -46,12 +46,12 @@ fn put_registers(out: &mut [u8], at: usize, g: Registers) -> usize
     let stack = g.stack;
     let environment = g.environment;
     let slots = g.slots;
-    let behind_place = put_decimal(out, at, g.place as u64);
-    let behind_stack = put_named_values(out, behind_place, b" stack ", stack, g.stack_count);
-    let behind_both = put_named_values(out, behind_stack, b" env ", environment, g.environment_count);
-    let before_slots = put_bytes(out, behind_both, b" slots ");
-    let behind_slots = put_slots(out, before_slots, slots);
-    put_bytes(out, behind_slots, b"\n")
+    let placed = put_decimal(out, at, g.place as u64);
+    let stacked = put_named_values(out, placed, b" stack ", stack, g.stack_count);
+    let both = put_named_values(out, stacked, b" env ", environment, g.environment_count);
+    let named = put_bytes(out, both, b" slots ");
+    let held = put_slots(out, named, slots);
+    put_bytes(out, held, b"\n")
 }
 
 // The record's number, what it does, and what it has.

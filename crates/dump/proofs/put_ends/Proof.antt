@@ -39,8 +39,7 @@ put-end-requires c κs =
     let s = at-start .pre .0 .1 in
     let l = at-loop .loop in
     let below = c .before .loop-test .taken in
-    let inside : l .e < length (view m .ends) = omega (arith, below, s .state-sound .S1 .end-count) in
-    (
+    let inside : l .e < length (view m .ends) = omega (arith, below, s .state-sound .S1 .end-count) in (
       (at-start .pre .0 .0, omega (arith, below), s),
       line-room endText (view m .ends) (l .e) free-end inside (l .inv .2) (at-start .pre .1),
     )

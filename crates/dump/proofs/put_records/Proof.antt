@@ -39,8 +39,7 @@ put-record-requires c κs =
     let s = at-start .pre .0 .1 in
     let l = at-loop .loop in
     let below = c .before .loop-test .taken in
-    let inside : l .r < length (view m .records) = omega (arith, below, s .state-sound .S1 .record-count) in
-    (
+    let inside : l .r < length (view m .records) = omega (arith, below, s .state-sound .S1 .record-count) in (
       (at-start .pre .0 .0, omega (arith, below), s),
       line-room recordText (view m .records) (l .r) free-record inside (l .inv .2) (at-start .pre .1),
     )
