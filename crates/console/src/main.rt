@@ -38,7 +38,7 @@ fn answer_line(line: &[u8], skips: bool, state: &mut [u8], bytes: &mut [u8], out
         return;
     }
     let n = answers::answer(line, state, bytes, out);
-    io::write_all(STDOUT_FILENO, &out[..n]);
+    io::write_all(STDOUT_FILENO, &out[0..n]);
 }
 
 // The bytes from one place up to another go to the front.
@@ -94,7 +94,7 @@ fn fill(
         };
     }
     if 0 < size {
-        answer_line(&input[..size], skips, state, bytes, out);
+        answer_line(&input[0..size], skips, state, bytes, out);
     }
     Reader {
         from: 0,
