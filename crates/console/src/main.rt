@@ -1,22 +1,20 @@
 // The console of a bench engineer: commands are read from standard input, one a line, and each is answered on standard output before the
-// next is looked at. The grammar is `commands`, specs/Asked.antt; the answers are in answers.rt.
+// next is looked at. The grammar is that of `commands`, specs/Asked.antt; the answers are those of `answers`, specs/Answers.antt.
 ghost use mathlib.Core.Path.{_≡_};
 ghost use Prim.Native.Nat.{_≤_};
 ghost use lib.ListN.{length};
 ghost use Rattle.rules.specs.Layout.{stateSize};
-ghost use Rattle.console.specs.Sizes.{inputSize, byteSize, outputSize};
-use answers::front;
+ghost use Rattle.answers.specs.Sizes.{byteSize, outputSize};
+ghost use Rattle.console.specs.Sizes.{inputSize};
 use commands::LINE_LIMIT;
 use libc::STDIN_FILENO;
 use libc::STDOUT_FILENO;
 use rules::places::STATE_SIZE;
 use text::length_before;
 
-mod answers; // answers.rt: the answer to a line
-
 const LINE_END: u8 = 10;
 
-// The lengths of the buffers, as specs/Sizes.antt has them.
+// The lengths of the buffers, as specs/Sizes.antt here and in `answers` have them.
 const INPUT_SIZE: usize = LINE_LIMIT + 1;
 
 const BYTE_SIZE: usize = LINE_LIMIT / 2;
@@ -40,7 +38,7 @@ fn answer_line(line: &[u8], skips: bool, state: &mut [u8], bytes: &mut [u8], out
         return;
     }
     let n = answers::answer(line, state, bytes, out);
-    io::write_all(STDOUT_FILENO, front(out, n));
+    io::write_all(STDOUT_FILENO, &out[0..n]);
 }
 
 // The bytes from one place up to another go to the front.
@@ -96,7 +94,7 @@ fn fill(
         };
     }
     if 0 < size {
-        answer_line(front(input, size), skips, state, bytes, out);
+        answer_line(&input[0..size], skips, state, bytes, out);
     }
     Reader {
         from: 0,

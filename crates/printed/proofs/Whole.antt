@@ -28,7 +28,8 @@ use Rattle.printed.specs.Meaning.{verdictIn, lastLine}
 
 -- ---- the last line
 
-named-back : (v : run.Verdict) → verdictIn (verdictCode v) ≡ v
+-- a verdict's name in the code names it
+pub named-back : (v : run.Verdict) → verdictIn (verdictCode v) ≡ v
 named-back run.spent = refl
 named-back run.finished = refl
 named-back run.stuck = refl
@@ -50,12 +51,12 @@ module _ (st : State) (ss : List Step) {made next : ℕ} {left : List ℕ} (e : 
 -- ---- the image
 
 -- 1 for a refusal
-abbrev isRefused : Reply → ℕ
+abbrev pub isRefused : Reply → ℕ
 isRefused Done = 0
 isRefused (Refused n) = 1
 
 -- the number of a refusal
-abbrev refusalOf : Reply → ℕ
+abbrev pub refusalOf : Reply → ℕ
 refusalOf Done = 0
 refusalOf (Refused n) = n
 

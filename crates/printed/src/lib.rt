@@ -15,6 +15,7 @@ pub use kinds::Printed;
 pub use lines::put_last;
 pub use lines::put_line;
 pub use lines::put_refused;
+pub use lines::put_verdict;
 pub use reading::printed_at;
 pub use tracing::TRACE_LIMIT;
 pub use tracing::trace;

@@ -103,7 +103,8 @@ pub fn put_refused(out: &mut [u8], at: usize, n: u8) -> usize
     put_bytes(out, end, b"\n")
 }
 
-fn put_verdict(out: &mut [u8], at: usize, verdict: Verdict) -> usize
+// The word of a verdict.
+pub fn put_verdict(out: &mut [u8], at: usize, verdict: Verdict) -> usize
     requires { ⌜ at + length (verdictText (verdictIn verdict)) ≤ length (now out) ⌝ }
     ensures { λ r. ⌜ Written (now (out .entry)) at (verdictText (verdictIn verdict)) (now (out .exit)) r ⌝ }
 {

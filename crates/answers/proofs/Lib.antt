@@ -1,0 +1,4 @@
+pub mod Texts
+pub mod Lengths
+pub mod Cases
+pub mod Whole
