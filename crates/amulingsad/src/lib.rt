@@ -1,5 +1,5 @@
-// The machine for hosts: the functions of include/amulingsad.h. Each returns document 01's number and writes further answers through pointers, which
-// a refused call leaves as they were. What is promised here is what `machine`, `runner` and `image` promise.
+// The machine for hosts: the functions of include/amulingsad.h. Each returns document 01's number and writes further answers through
+// pointers, which a refused call leaves as they were. What is promised here is what `machine`, `runner` and `image` promise.
 ghost use mathlib.Core.Path.{_≡_};
 ghost use Rattle.rules.specs.Refusal.{numberOf};
 ghost use Rattle.rules.specs.Calls.{load, write, callRecord, callEnd, callFreeEnds, runAnswer, callRun};

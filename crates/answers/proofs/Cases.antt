@@ -14,7 +14,8 @@ use Rattle.rules.specs.Run as run
 use Rattle.rules.specs.Image.{blockSize, dataSize, blockCount, headed, imageOf, writeCauses, written}
 use Rattle.rules.specs.Layout.{stateSize, view}
 use Rattle.rules.specs.Calls.{soundBytes, outputOr, writeAnswer, write}
-use Rattle.rules.specs.Numbers.{replyTo}
+use Rattle.rules.specs.Numbers.{replyTo, replyNumber}
+use Rattle.rules.proofs.Promises.{isRefused}
 use Rattle.rules.specs.Text.{text}
 use Rattle.rules.specs.declared.Reply.the-variants.{Done, Refused}
 use Rattle.rules.proofs.Rows.{all-passed}
@@ -26,7 +27,7 @@ use Rattle.runner.specs.declared.running.Ran.the-variants as ran
 use Rattle.runner.specs.Runs.{ranReply}
 use Rattle.dump.specs.Shown.{stateText}
 use Rattle.printed.specs.Meaning.{verdictIn}
-use Rattle.printed.proofs.Whole.{named-back, isRefused, refusalOf}
+use Rattle.printed.proofs.Whole.{named-back}
 use Rattle.answers.specs.Answers.{numberLine, hexLine, imageRoom, writtenText, writeText, madeText, ranText}
 use Rattle.answers.specs.Answers.{dumpText, peekText, pokeText, poked}
 
@@ -50,7 +51,7 @@ run-text a {given} {shown} is e = ap textIn (sym is ∙ e) ∙ reply-text a
 -- refused: the number
 pub write-refused : (code : List ℕ) (a : Answer (List ℕ)) (n : ℕ) → Refused n ≡ replyTo a
     → numberLine (text "write ") n ≡ writtenText code a
-write-refused code (refused k) n e = ap (λ (j : ℕ). numberLine (text "write ") j) (ap refusalOf e)
+write-refused code (refused k) n e = ap (λ (j : ℕ). numberLine (text "write ") j) (ap replyNumber e)
 write-refused code (done x) n e = absurd (omega (arith, ap isRefused e))
 
 -- an image is as long as its blocks

@@ -15,6 +15,9 @@ use crate::lines::number_of;
 use crate::lines::put_hex_line;
 use crate::lines::put_number_line;
 use crate::lines::put_verdict_line;
+use image::BLOCK_LIMIT;
+use image::BLOCK_SIZE;
+use image::block_count;
 use machine::FreeEnds;
 use rules::Reply;
 use runner::Ran;
@@ -22,8 +25,8 @@ use runner::Verdict;
 use text::put_bytes;
 use text::put_decimal;
 
-// The bytes of sixteen blocks, the longest image.
-const IMAGE_ROOM: usize = 8192;
+// The bytes of the longest image.
+const IMAGE_ROOM: usize = BLOCK_SIZE * BLOCK_LIMIT;
 
 // `load HEX`: the method of an image.
 pub fn load(image: &[u8], state: &mut [u8], out: &mut [u8]) -> usize
@@ -35,12 +38,12 @@ pub fn load(image: &[u8], state: &mut [u8], out: &mut [u8]) -> usize
     put_number_line(out, 0, b"load ", number_of(reply))
 }
 
-// The bytes of the image of a code of so many bytes: 510 of data in each block of 512, four of them the head.
+// The bytes of the image of a code of so many bytes.
 fn image_size(code: usize) -> usize
     requires { ⌜ code ≤ codeLimit ⌝ }
     ensures { λ r. ⌜ r ≡ blockSize * blockCount code ⌝ }
 {
-    (4 + code + 509) / 510 * 512
+    BLOCK_SIZE * block_count(code)
 }
 
 // `write HEX`: the image of a code.

@@ -12,14 +12,10 @@ use Rattle.rules.specs.Causes.{ownCauses, sharedCauses}
 use Rattle.rules.specs.RecordStep.{lowestFree, after}
 use Rattle.rules.specs.Ask.{answerTo}
 use Rattle.rules.specs.Numbers.{replyTo, replyNumber}
-use Rattle.rules.specs.declared.Reply.{Reply}
+use Rattle.rules.proofs.Promises.{isRefused}
 use Rattle.rules.specs.declared.Reply.the-variants.{Done, Refused}
 use Rattle.rules.proofs.Rows.{all-passed}
 use Rattle.causes.specs.Own.{rowsReply, ownReply}
-
-abbrev isRefused : Reply → ℕ
-isRefused Done = 0
-isRefused (Refused n) = 1
 
 pub refused-not-done : {A : Type 0} {n : ℕ} → Refused n ≡ Done → A
 refused-not-done e = absurd (let z : _≡_ {A = ℕ} 1 0 = ap isRefused e in omega arith)

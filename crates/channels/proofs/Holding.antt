@@ -4,9 +4,8 @@ use mathlib.Core.Path.{_≡_, refl, ap, _∙_}
 use mathlib.Core.Bool.{false, not}
 use mathlib.Core.Option.{Option, none, some}
 use mathlib.Core.List.{List}
-use Prim.Native.Nat.{ℕ, zero, suc, _<_}
+use Prim.Native.Nat.{ℕ, _<_}
 use native.Mathlib.Omega.{arith}
-use lib.ListN.{getD, replicate}
 use Rattle.rules.specs.Limits.{endCount, slotCount}
 use Rattle.rules.specs.State.{State, Registers as Process, RecordState, free-record, running, waiting, recordAt, endAt}
 use Rattle.rules.specs.State.{slotAt, endOr, endIn, isFreeEnd, lastOf}
@@ -16,6 +15,7 @@ use Rattle.rules.specs.Layout.{noRegisters, view}
 use Rattle.rules.specs.Sound.{RegistersWithin, heldIn}
 use Rattle.rules.proofs.TestLaws.{true-is-not-false}
 use Rattle.rules.proofs.SoundLaws.{slot-counts, held-within}
+use Rattle.keeping.proofs.Start.{all-the-same}
 use Rattle.keeping.specs.Demand3.{SoundMemory}
 use Rattle.registers.specs.declared.Registers.{Registers}
 use Rattle.registers.specs.Registers.{registersOf, registersIn}
@@ -31,15 +31,10 @@ holds-some : (o : Option ℕ) → not (isHeld o) ≡ false → o ≡ some (endOr
 holds-some none h = true-is-not-false refl h
 holds-some (some e) h = refl
 
-all-empty : (n c : ℕ) → getD (replicate {A = Option ℕ} n none) c none ≡ none
-all-empty zero c = refl
-all-empty (suc n) zero = refl
-all-empty (suc n) (suc c) = all-empty n c
-
 -- it is held by that record
 held-counts : (x : RecordState) (c : ℕ) → empty c (registersIn x) ≡ false → 0 < heldIn (endIn (registersIn x) c) x
 unfolding noRegisters
-held-counts free-record c h = true-is-not-false (ap (λ (o : Option ℕ). not (isHeld o)) (all-empty slotCount c)) h
+held-counts free-record c h = true-is-not-false (ap (λ (o : Option ℕ). not (isHeld o)) (all-the-same slotCount none c)) h
 held-counts (running g) c h = slot-counts (g .slots) c _ (holds-some (slotAt g c) h)
 held-counts (waiting g) c h = slot-counts (g .slots) c _ (holds-some (slotAt g c) h)
 

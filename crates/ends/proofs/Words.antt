@@ -14,6 +14,7 @@ use lib.Bits.{bitAnd, bitOr, and-step, or-step, and-self, and-mask, or-zero-r}
 use lib.Pow.{pow-lt}
 use lib.Count.{ones, ones-step, trailingZeros}
 use Rattle.rules.specs.Limits.{endCount}
+use Rattle.rules.specs.Count.{oneIf}
 use Rattle.rules.specs.State.{State, EndState, free-end, used, isFreeEnd, placesFrom, freeEnds}
 use Rattle.rules.specs.RecordStep.{lowestFree}
 use Rattle.rules.specs.Layout.{freeWord}
@@ -140,21 +141,17 @@ and-parts : (a b : ℕ) {x y p q : ℕ} → a / 2 ≡ x → b / 2 ≡ y → a % 
 and-parts a b h k l m = and-step a b ∙ rw (h, k, l, m)
 
 -- the lowest end's bit, and the word of the others above it
-abbrev bitOf : Bool → ℕ
-bitOf true = 1
-bitOf false = 0
-
-bit-laws : (b : Bool) → (bitOf b < 2) × (max (bitOf b) 0 ≡ bitOf b) × (max (bitOf b) 1 ≡ 1) × (min (bitOf b) 0 ≡ 0)
-    × (min (bitOf b) 1 ≡ bitOf b) × (eqb (bitOf b) 1 ≡ b)
+bit-laws : (b : Bool) → (oneIf b < 2) × (max (oneIf b) 0 ≡ oneIf b) × (max (oneIf b) 1 ≡ 1) × (min (oneIf b) 0 ≡ 0)
+    × (min (oneIf b) 1 ≡ oneIf b) × (eqb (oneIf b) 1 ≡ b)
 bit-laws true = (omega arith, refl, refl, refl, refl, refl)
 bit-laws false = (omega arith, refl, refl, refl, refl, refl)
 
-word-cons : (x : EndState) (l : List EndState) → freeWord (x ∷ l) ≡ bitOf (isFreeEnd x) + 2 * freeWord l
+word-cons : (x : EndState) (l : List EndState) → freeWord (x ∷ l) ≡ oneIf (isFreeEnd x) + 2 * freeWord l
 unfolding freeWord
 word-cons free-end l = refl
 word-cons (used m ds f) l = omega arith
 
-word-low : (x : EndState) (l : List EndState) → freeWord (x ∷ l) % 2 ≡ bitOf (isFreeEnd x)
+word-low : (x : EndState) (l : List EndState) → freeWord (x ∷ l) % 2 ≡ oneIf (isFreeEnd x)
 word-low x l = omega (arith, word-cons x l, bit-laws (isFreeEnd x) .0)
 
 word-half : (x : EndState) (l : List EndState) → freeWord (x ∷ l) / 2 ≡ freeWord l

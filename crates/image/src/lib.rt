@@ -13,10 +13,11 @@ ghost use Rattle.rules.specs.Image.{readImage, codeLength, codeIn};
 ghost use Rattle.words.specs.Parts.{putAt};
 ghost use Rattle.rules.specs.Numbers.{replyNumber, replyTo};
 ghost use Rattle.image.specs.Answers.{foundAnswer, lengthRead};
-use block::BLOCK_LIMIT;
-use block::BLOCK_SIZE;
+pub use block::BLOCK_LIMIT;
+pub use block::BLOCK_SIZE;
 use block::DATA_SIZE;
 use block::HEAD_SIZE;
+pub use block::block_count;
 use rules::BLOCK_CHECK;
 use rules::CODE_LENGTH;
 use rules::CODE_LIMIT;
@@ -40,7 +41,7 @@ pub fn write(code: &[u8], out: &mut [u8]) -> Reply
     ensures reply { λ r. ⌜ r ≡ replyTo (writeAnswer (now (code .entry)) (now (out .entry))) ⌝ }
 {
     let length = code.len();
-    let count = block::block_count(length);
+    let count = block_count(length);
     let size = BLOCK_SIZE * count;
     if length == 0 {
         return Reply::Refused(CODE_LENGTH); // no code

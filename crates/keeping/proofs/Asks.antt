@@ -12,17 +12,23 @@ use lib.IntN.{pos}
 use lib.Dec.{ltb}
 use borrow.Author.Tests.{leb-false}
 use Rattle.rules.specs.Limits.{recordCount, stackDepth, slotCount, placeCount}
-use Rattle.rules.specs.State.{State, Datum, value, handle, Last, split-item, close-item, wait-item, EndState, free-end, used, Registers, registers, RecordState, free-record, running, waiting, recordAt, endAt, slotAt, headOf, lastOf, isFreeEnd, lowestFreeRecord}
+use Rattle.rules.specs.State.{State, Datum, value, handle, Last, split-item, close-item, wait-item, EndState, free-end, used, Registers}
+use Rattle.rules.specs.State.{registers, RecordState, free-record, running, waiting, recordAt, endAt, slotAt, headOf, lastOf, isFreeEnd}
+use Rattle.rules.specs.State.{lowestFreeRecord}
 use Rattle.rules.specs.Refusal.{Row, refused, done, NoCause}
-use Rattle.rules.specs.Instruction.{Instruction, cst, access, store, add, mul, leq, put, get, split, fork, plug, close, halt, same, hput, hcase, run, Decoded, decode}
+use Rattle.rules.specs.Instruction.{Instruction, cst, access, store, add, mul, leq, put, get, split, fork, plug, close, halt, same, hput}
+use Rattle.rules.specs.Instruction.{hcase, run, Decoded, decode}
 use Rattle.rules.specs.Causes.{stackFull, noFreeRecord, ownCauses, sharedCauses}
 use Rattle.rules.specs.RecordStep.{lowestFree, branch, partnerIn}
-use Rattle.rules.specs.EndStep.{Wanted, a-value, a-handle, a-split, Wait, waitOf, Waiter, waiterIn, Meeting, mismatch, delivers, handleChosen, meetDatum, meetSplit, datumAgainst, splitAgainst, meetHeads, meeting, isMismatch, isDivision, onlyIf, endCauses, afterMeeting}
+use Rattle.rules.specs.EndStep.{Wanted, a-value, a-handle, a-split, Wait, waitOf, Waiter, waiterIn, Meeting, mismatch, delivers}
+use Rattle.rules.specs.EndStep.{handleChosen, meetDatum, meetSplit, datumAgainst, splitAgainst, meetHeads, meeting, isMismatch, isDivision}
+use Rattle.rules.specs.EndStep.{onlyIf, endCauses, afterMeeting}
 use Rattle.rules.specs.Ask.{answerTo, askDecoded, askIn, askRecord, askEnd, pickAnswer, ask}
 use Rattle.rules.specs.Slots.{over, emptied}
 use Rattle.rules.specs.Count.{δ, total}
 use Rattle.rules.specs.Sound.{ValueWithin, DatumWithin, EndWithin, RecordWithin, RegistersWithin, inSlot, Sound}
-use Rattle.rules.specs.Events.{taken-from, instructionEvents, decodedEvents, recordEventsIn, recordEvents, meetingEvents, endEvents, pickEvents, events}
+use Rattle.rules.specs.Events.{taken-from, instructionEvents, decodedEvents, recordEventsIn, recordEvents, meetingEvents, endEvents}
+use Rattle.rules.specs.Events.{pickEvents, events}
 use Rattle.rules.proofs.CountLaws.{δ-sym}
 use Rattle.rules.proofs.Rows.{all-passed}
 use Rattle.rules.proofs.TestLaws.{true-is-not-false}

@@ -9,9 +9,11 @@ use native.Mathlib.Omega.{arith}
 use lib.ListN.{getD}
 use Rattle.rules.specs.Count.{δ}
 use Rattle.rules.specs.State.{State, EndState, free-end, RecordState, free-record, recordAt, endAt, lastOf, wait-item}
-use Rattle.rules.specs.Sound.{RecordWithin, EndWithin, Within, heldIn, carriedBy, givenUp, inUse, placesOf, namedBy, waitsNaming, isWaiting, StandsAt, Sound}
+use Rattle.rules.specs.Sound.{RecordWithin, EndWithin, Within, heldIn, carriedBy, givenUp, inUse, placesOf, namedBy, waitsNaming, isWaiting}
+use Rattle.rules.specs.Sound.{StandsAt, Sound}
 use Rattle.rules.proofs.CountLaws.{δ-same}
-use Rattle.keeping.proofs.Patch.{Put, patched, olds, news, Outside, Valid, AllNew, AllOld, length-patched, total-patch, at-patch, patched-out, patched-all, total-rest, outside-or}
+use Rattle.keeping.proofs.Patch.{Put, patched, olds, news, Outside, Valid, AllNew, AllOld, length-patched, total-patch, at-patch}
+use Rattle.keeping.proofs.Patch.{patched-out, patched-all, total-rest, outside-or}
 use Rattle.keeping.proofs.Pairs.{mates, Mated, mated-of-paired, paired-of-mated}
 
 -- the ends and the records that a step puts anew: place, old, new

@@ -11,7 +11,8 @@ use lib.ListN.{length, getD, length-set}
 use lib.Seq.{getD-set-same, getD-set-other}
 use borrow.Author.Tests.{eq-eqb, ne-eqb}
 use Rattle.rules.specs.Limits.{placeCount}
-use Rattle.rules.specs.State.{State, Datum, Last, split-item, wait-item, free-end, used, fresh-end, Registers, free-record, running, recordAt, endAt, setRecord, setEnd, slotAt}
+use Rattle.rules.specs.State.{State, Datum, Last, split-item, wait-item, free-end, used, fresh-end, Registers, free-record, running}
+use Rattle.rules.specs.State.{recordAt, endAt, setRecord, setEnd, slotAt}
 use Rattle.rules.specs.Causes.{empty, taken, unlessSame}
 use Rattle.rules.specs.RecordStep.{branch}
 use Rattle.rules.specs.Slots.{Slots, isHeld, emptied, holding, inSet, keptBy}

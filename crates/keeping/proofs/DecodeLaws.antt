@@ -14,7 +14,11 @@ use mir.Facts.{sfits-toZ}
 use Rattle.rules.specs.Limits.{placeCount, handleCount}
 use Rattle.rules.specs.Bytes.{table}
 use Rattle.rules.specs.Refusal.{noCause}
-use Rattle.rules.specs.Instruction.{Instruction, cst, access, store, add, mul, leq, put, get, split, fork, plug, close, halt, same, hput, hcase, run, Name, cst-name, access-name, store-name, add-name, mul-name, leq-name, put-name, get-name, split-name, fork-name, plug-name, close-name, halt-name, same-name, hput-name, hcase-name, run-name, Form, formOf, byteAt, placeAt, signedAt, placesAt, instructionAt, placeAfter, misfits, Decoded, decodedIf, decodeAs, decode}
+use Rattle.rules.specs.Instruction.{Instruction, cst, access, store, add, mul, leq, put, get, split, fork, plug, close, halt, same, hput}
+use Rattle.rules.specs.Instruction.{hcase, run, Name, cst-name, access-name, store-name, add-name, mul-name, leq-name, put-name, get-name}
+use Rattle.rules.specs.Instruction.{split-name, fork-name, plug-name, close-name, halt-name, same-name, hput-name, hcase-name, run-name}
+use Rattle.rules.specs.Instruction.{Form, formOf, byteAt, placeAt, signedAt, placesAt, instructionAt, placeAfter, misfits, Decoded}
+use Rattle.rules.specs.Instruction.{decodedIf, decodeAs, decode}
 use Rattle.rules.specs.Sound.{ValueWithin}
 use Rattle.rules.proofs.TestLaws.{no-cause-read}
 

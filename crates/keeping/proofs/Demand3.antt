@@ -18,7 +18,9 @@ use Rattle.rules.specs.Sound.{Sound}
 use Rattle.rules.specs.Events.{newHistory}
 use Rattle.rules.specs.Image.{blockSize, dataSize, headSize, readCauses, codeIn, codeLength, imageData, dataIn, blocksIn, readImage}
 use Rattle.rules.specs.Layout.{stateSize, layout, view}
-use Rattle.rules.specs.Calls.{lengthCause, startCause, called, whereSound, started, loadAnswer, load, recordAnswer, callRecord, endAnswer, callEnd, runAnswer, reachedOr, callRun, Call, ask-record, ask-end, run, memoryAfter, stepIf, stepsIf, callSteps, memoryAfterAll, allSteps, allEvents}
+use Rattle.rules.specs.Calls.{lengthCause, startCause, called, whereSound, started, loadAnswer, load, recordAnswer, callRecord, endAnswer}
+use Rattle.rules.specs.Calls.{callEnd, runAnswer, reachedOr, callRun, Call, ask-record, ask-end, run, memoryAfter, stepIf, stepsIf}
+use Rattle.rules.specs.Calls.{callSteps, memoryAfterAll, allSteps, allEvents}
 use Rattle.keeping.specs.Queues.{AllAgree}
 use Rattle.keeping.specs.Demand3.{SoundMemory, Demand3}
 use Rattle.keeping.proofs.ValueLaws.{all-append, all-take, all-drop}

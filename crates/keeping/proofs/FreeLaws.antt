@@ -7,10 +7,12 @@ use native.Mathlib.Omega.{arith}
 use lib.ListN.{length, getD}
 use borrow.Author.Tests.{ltb-false, eqb-false}
 use Rattle.rules.specs.Limits.{recordCount, endCount}
-use Rattle.rules.specs.State.{State, Registers, EndState, free-end, used, RecordState, free-record, running, waiting, isFreeEnd, isFreeRecord, prependIf, placesFrom, freeEnds, freeRecords, endAt, recordAt}
+use Rattle.rules.specs.State.{State, Registers, EndState, free-end, used, RecordState, free-record, running, waiting, isFreeEnd}
+use Rattle.rules.specs.State.{isFreeRecord, prependIf, placesFrom, freeEnds, freeRecords, endAt, recordAt}
 use Rattle.rules.specs.Causes.{fewFreeEnds, noFreeRecord, sharedCauses}
 use Rattle.rules.specs.Refusal.{NoCause}
-use Rattle.rules.specs.Instruction.{Instruction, cst, access, store, add, mul, leq, put, get, split, fork, plug, close, halt, same, hput, hcase, run}
+use Rattle.rules.specs.Instruction.{Instruction, cst, access, store, add, mul, leq, put, get, split, fork, plug, close, halt, same, hput}
+use Rattle.rules.specs.Instruction.{hcase, run}
 use Rattle.rules.specs.RecordStep.{Fresh, lowestFree}
 use Rattle.rules.proofs.TestLaws.{true-is-not-false}
 

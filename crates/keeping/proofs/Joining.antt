@@ -8,7 +8,8 @@ use Prim.Native.Nat.{ℕ, _+_}
 use native.Mathlib.Omega.{arith}
 use lib.ListN.{getD, set}
 use lib.Seq.{getD-set-other}
-use Rattle.rules.specs.State.{State, Datum, Last, wait-item, EndState, free-end, used, Registers, free-record, running, recordAt, endAt, setRecord, setEnd, lastOf, partnerOf}
+use Rattle.rules.specs.State.{State, Datum, Last, wait-item, EndState, free-end, used, Registers, free-record, running, recordAt, endAt}
+use Rattle.rules.specs.State.{setRecord, setEnd, lastOf, partnerOf}
 use Rattle.rules.specs.Count.{δ, total}
 use Rattle.rules.specs.Sound.{EndWithin, inSlot, namedBy, waitsNaming, isWaiting, Paired, StandsAt, Sound}
 use Rattle.rules.proofs.CountLaws.{δ-ne, total-one}

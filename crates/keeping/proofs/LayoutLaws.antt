@@ -13,7 +13,8 @@ use Rattle.rules.specs.Limits.{recordCount, endCount, slotCount, stackDepth, en
 use Rattle.rules.specs.Bytes.{bytesOf, flat, pad}
 use Rattle.rules.specs.State.{State, Value, EndState, Registers, RecordState, free-record, running, waiting, queueLength}
 use Rattle.rules.specs.Slots.{Slots}
-use Rattle.rules.specs.Layout.{valueSize, cellSize, recordSize, freeSize, queueSize, stateSize, optional, valueBytes, registersBytes, noRegisters, recordBytes, freeWord, partnerByte, queueCells, queueBytes, layout}
+use Rattle.rules.specs.Layout.{valueSize, cellSize, recordSize, freeSize, queueSize, stateSize, optional, valueBytes, registersBytes}
+use Rattle.rules.specs.Layout.{noRegisters, recordBytes, freeWord, partnerByte, queueCells, queueBytes, layout}
 use Rattle.words.proofs.Numbers.{length-bytes}
 use Rattle.words.proofs.Pads.{length-pad}
 use Rattle.words.proofs.Pieces.{length-flat}

@@ -8,7 +8,8 @@ use native.Mathlib.Omega.{arith}
 use lib.ListN.{getD, set}
 use lib.Seq.{getD-set-other}
 use borrow.Author.Tests.{eq-eqb, ne-eqb}
-use Rattle.rules.specs.State.{State, Datum, Last, split-item, close-item, wait-item, EndState, free-end, used, Registers, free-record, running, waiting, recordAt, endAt, setRecord, setEnd, lastOf}
+use Rattle.rules.specs.State.{State, Datum, Last, split-item, close-item, wait-item, EndState, free-end, used, Registers, free-record}
+use Rattle.rules.specs.State.{running, waiting, recordAt, endAt, setRecord, setEnd, lastOf}
 use Rattle.rules.specs.Count.{δ, total}
 use Rattle.rules.specs.Sound.{EndWithin, RegistersWithin, inSlot, namedBy, waitsNaming, isWaiting, StandsAt, Sound}
 use Rattle.rules.specs.Events.{taken-from}

@@ -10,9 +10,11 @@ use native.Mathlib.Omega.{arith}
 use lib.ListN.{length, getD, set, length-append}
 use borrow.Author.Tests.{eq-eqb, ne-eqb}
 use Rattle.rules.specs.Limits.{queueDepth}
-use Rattle.rules.specs.State.{State, Datum, handle, Last, split-item, close-item, wait-item, EndState, free-end, used, Registers, RecordState, free-record, running, waiting, recordAt, endAt, setRecord, setEnd, slotAt, lastOf}
+use Rattle.rules.specs.State.{State, Datum, handle, Last, split-item, close-item, wait-item, EndState, free-end, used, Registers}
+use Rattle.rules.specs.State.{RecordState, free-record, running, waiting, recordAt, endAt, setRecord, setEnd, slotAt, lastOf}
 use Rattle.rules.specs.Count.{δ, total}
-use Rattle.rules.specs.Sound.{DatumWithin, RegistersWithin, RecordWithin, inSlot, heldIn, inLast, givesUp, givenUp, inUse, placesOf, namedByLast, isWaiting, StandsAt, Sound}
+use Rattle.rules.specs.Sound.{DatumWithin, RegistersWithin, RecordWithin, inSlot, heldIn, inLast, givesUp, givenUp, inUse, placesOf}
+use Rattle.rules.specs.Sound.{namedByLast, isWaiting, StandsAt, Sound}
 use Rattle.rules.specs.Events.{put-on}
 use Rattle.rules.proofs.CountLaws.{total-one, total-two, weighs-in}
 use Rattle.rules.proofs.SoundLaws.{slot-counts}

@@ -6,14 +6,16 @@ use Prim.Native.Nat.{ℕ, zero, suc, _-_, _≤_, _<_}
 use native.Mathlib.Omega.{arith}
 use lib.ListN.{length, getD, replicate}
 use Rattle.rules.specs.Limits.{recordCount, endCount, slotCount, codeLimit}
-use Rattle.rules.specs.State.{wait-item, free-end, Registers, registers, RecordState, free-record, running, recordAt, endAt, lastOf, emptySlots, start}
+use Rattle.rules.specs.State.{wait-item, free-end, Registers, registers, RecordState, free-record, running, recordAt, endAt, lastOf}
+use Rattle.rules.specs.State.{emptySlots, start}
 use Rattle.rules.specs.Count.{total}
 use Rattle.rules.specs.Sound.{RegistersWithin, RecordWithin, inSlot, heldIn, carriedBy, placesOf, namedBy, waitsNaming, isWaiting, Sound}
 use Rattle.rules.specs.Events.{newHistory}
 use Rattle.rules.proofs.CountLaws.{total-zero}
 use Rattle.keeping.specs.Queues.{AllAgree}
 
-all-the-same : {A : Type 0} (n : ℕ) (a : A) (i : ℕ) → getD (replicate n a) i a ≡ a
+-- a list of the same thing over and over has that thing everywhere
+pub all-the-same : {A : Type 0} (n : ℕ) (a : A) (i : ℕ) → getD (replicate n a) i a ≡ a
 all-the-same zero a i = refl
 all-the-same (suc n) a zero = refl
 all-the-same (suc n) a (suc i) = all-the-same n a i

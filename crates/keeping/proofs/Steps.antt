@@ -15,10 +15,13 @@ use lib.Signed.{mag, leZ}
 use lib.Dec.{leb, ltb, eqb}
 use borrow.Author.Tests.{leb-false, ltb-false, eqb-false}
 use Rattle.rules.specs.Limits.{endCount, queueDepth, slotCount, stackDepth, environmentDepth, placeCount, valueBound}
-use Rattle.rules.specs.State.{State, Value, Datum, value, handle, close-item, wait-item, EndState, used, Registers, registers, RecordState, free-record, running, waiting, recordAt, endAt, setRecord, slotAt, endIn, endOr, partnerOf, queueLength}
+use Rattle.rules.specs.State.{State, Value, Datum, value, handle, close-item, wait-item, EndState, used, Registers, registers, RecordState}
+use Rattle.rules.specs.State.{free-record, running, waiting, recordAt, endAt, setRecord, slotAt, endIn, endOr, partnerOf, queueLength}
 use Rattle.rules.specs.Refusal.{NoCause}
-use Rattle.rules.specs.Instruction.{Instruction, cst, access, store, add, mul, leq, put, get, split, fork, plug, close, halt, same, hput, hcase, run, Decoded, decode}
-use Rattle.rules.specs.Causes.{top, below, fewer, empty, names, partners, queueFull, queueNotEmpty, othersThanBothHeld, ownCauses, sharedCauses}
+use Rattle.rules.specs.Instruction.{Instruction, cst, access, store, add, mul, leq, put, get, split, fork, plug, close, halt, same, hput}
+use Rattle.rules.specs.Instruction.{hcase, run, Decoded, decode}
+use Rattle.rules.specs.Causes.{top, below, fewer, empty, names, partners, queueFull, queueNotEmpty, othersThanBothHeld, ownCauses}
+use Rattle.rules.specs.Causes.{sharedCauses}
 use Rattle.rules.specs.RecordStep.{Fresh, yesOrNo, waits, after}
 use Rattle.rules.specs.EndStep.{a-value, a-handle, a-split, Wait, waitOf}
 use Rattle.rules.specs.Slots.{over, emptied, calleeSlots}

@@ -13,9 +13,13 @@ use mir.Val.{toZ, ofZ, SFits}
 use mir.Facts.{toZ-ofZ, fits-ofZ}
 use Rattle.rules.specs.Limits.{recordCount, endCount, slotCount, stackDepth, environmentDepth, queueDepth, codeLimit}
 use Rattle.rules.specs.Bytes.{bytesOf, numberAt, flat, pad, pieces}
-use Rattle.rules.specs.State.{State, Value, Datum, value, handle, Last, split-item, close-item, wait-item, EndState, free-end, used, Registers, registers, RecordState, free-record, running, waiting, endAt, queueLength, lastOf, isFreeEnd}
+use Rattle.rules.specs.State.{State, Value, Datum, value, handle, Last, split-item, close-item, wait-item, EndState, free-end, used}
+use Rattle.rules.specs.State.{Registers, registers, RecordState, free-record, running, waiting, endAt, queueLength, lastOf, isFreeEnd}
 use Rattle.rules.specs.Slots.{Slots, lowBit}
-use Rattle.rules.specs.Layout.{valueSize, cellSize, recordSize, freeSize, queueSize, recordsAt, freeAt, partnersAt, countsAt, queuesAt, optional, valueBytes, registersBytes, recordBytes, freeWord, partnerByte, datumCell, lastCell, lastCells, queueCells, queueBytes, layout, viewOptional, viewValue, viewValues, viewRegisters, viewStatus, viewRecord, Queue, queue, inFront, viewCell, viewCells, viewQueue, viewEnd, viewEnds, view}
+use Rattle.rules.specs.Layout.{valueSize, cellSize, recordSize, freeSize, queueSize, recordsAt, freeAt, partnersAt, countsAt, queuesAt}
+use Rattle.rules.specs.Layout.{optional, valueBytes, registersBytes, recordBytes, freeWord, partnerByte, datumCell, lastCell, lastCells}
+use Rattle.rules.specs.Layout.{queueCells, queueBytes, layout, viewOptional, viewValue, viewValues, viewRegisters, viewStatus, viewRecord}
+use Rattle.rules.specs.Layout.{Queue, queue, inFront, viewCell, viewCells, viewQueue, viewEnd, viewEnds, view}
 use Rattle.rules.specs.Sound.{ValueWithin, DatumWithin, RegistersWithin, RecordWithin, EndWithin, Within}
 use Rattle.words.proofs.Numbers.{length-bytes, number-skip, number-bytes}
 use Rattle.words.proofs.Pads.{length-pad, pad-all, pad-same}

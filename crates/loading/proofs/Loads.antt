@@ -22,7 +22,8 @@ use Rattle.image.proofs.Copies.{ends}
 use Rattle.memory.proofs.CodeLaws.{code-written}
 
 -- the code of an image that reads has the length that the image states, and that is within the limit
-pub code-long : (image : List ℕ) → readImage image ≡ done (codeIn image) → (length (codeIn image) ≡ codeLength image) × (codeLength image ≤ codeLimit)
+pub code-long : (image : List ℕ) → readImage image ≡ done (codeIn image)
+    → (length (codeIn image) ≡ codeLength image) × (codeLength image ≤ codeLimit)
 code-long image e =
     let right = right-of image (codeIn image) e .0 in
     (code-size (blocksIn image) image (right .size) (right .some) (ends image right .1), right .short)

@@ -1,4 +1,5 @@
--- Two answers that the contract of `free_ends` allows are equal. For the asks and the load this is `results-equal` of `rules`. Assumes nothing.
+-- Two answers that the contract of `free_ends` allows are equal. For the asks and the load this is `results-equal` of `rules`. Assumes
+-- nothing.
 use mathlib.Core.Path.{_≡_, ap, ap₂}
 use Prim.Native.Nat.{ℕ}
 use native.Mathlib.Omega.{arith}

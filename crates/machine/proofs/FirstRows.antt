@@ -16,6 +16,7 @@ use Rattle.rules.specs.Ask.{askRecord, askEnd}
 use Rattle.rules.specs.Calls as rules
 use Rattle.rules.specs.Calls.{soundBytes, whereSound, layoutOr, recordAnswer, callRecord, endAnswer, callEnd, callFreeEnds}
 use Rattle.rules.specs.Numbers.{replyTo, replyNumber}
+use Rattle.rules.proofs.Promises.{isRefused}
 use Rattle.rules.specs.Promise.{Promise}
 use Rattle.rules.specs.declared.Reply.{Reply}
 use Rattle.rules.specs.declared.Reply.the-variants.{Done, Refused}
@@ -39,10 +40,6 @@ module _ (m : List ℕ) where
   pub is-right : length m ≡ stateSize → soundBytes m ≡ true → Done ≡ soundReply m
   unfolding unless
   is-right h t = rw (eq-eqb (length m) stateSize h, t)
-
-  abbrev isRefused : Reply → ℕ
-  isRefused Done = 0
-  isRefused (Refused n) = 1
 
   -- refused by 24 or 1: so is every request that begins with them
   pub refused-so : {A : Type 0} (a : Answer A) (n : ℕ) → soundReply m ≡ Refused n → whereSound m a ≡ refused n

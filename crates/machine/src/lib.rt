@@ -46,7 +46,8 @@ pub fn ask_record(state: &mut [u8], record: u32) -> Reply
 
 // An end is asked to step: 24, 1, 16 to 19, or done. Any number may be asked.
 pub fn ask_end(state: &mut [u8], end: u32) -> Reply
-    ensures { λ r. ⌜ Promise (replyTo (endAnswer (now (state .entry)) end)) (callEnd (now (state .entry)) end .memory) r (now (state .exit)) ⌝ }
+    ensures { λ r. ⌜ Promise (replyTo (endAnswer (now (state .entry)) end)) (callEnd (now (state .entry)) end .memory)
+        r (now (state .exit)) ⌝ }
 {
     if let Reply::Refused(n) = tested(state) {
         return Reply::Refused(n);

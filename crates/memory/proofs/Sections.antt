@@ -9,7 +9,8 @@ use lib.Seq.{set-append-left}
 use Rattle.rules.specs.Limits.{recordCount, endCount, queueDepth, codeLimit}
 use Rattle.rules.specs.Bytes.{bytesOf, numberAt, flat, pad}
 use Rattle.rules.specs.State.{State, EndState, RecordState, free-record, queueLength}
-use Rattle.rules.specs.Layout.{cellSize, recordSize, freeSize, recordsAt, freeAt, partnersAt, countsAt, queuesAt, recordBytes, freeWord, partnerByte, queueCells, queueBytes, layout}
+use Rattle.rules.specs.Layout.{cellSize, recordSize, freeSize, recordsAt, freeAt, partnersAt, countsAt, queuesAt, recordBytes, freeWord}
+use Rattle.rules.specs.Layout.{partnerByte, queueCells, queueBytes, layout}
 use Rattle.words.specs.Parts.{putAt}
 use Rattle.words.proofs.Parts.{put-skip, put-in, put-all, put-append}
 use Rattle.words.proofs.Numbers.{length-bytes, number-skip, number-in, number-bytes}

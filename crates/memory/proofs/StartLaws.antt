@@ -1,5 +1,5 @@
--- The memory of the start state: zeros throughout are the layout of a state with nothing in use but no end marked free; with record 0's status and
--- the word of free ends written it is the start state with no code. Assumes nothing.
+-- The memory of the start state: zeros throughout are the layout of a state with nothing in use but no end marked free; with record 0's
+-- status and the word of free ends written it is the start state with no code. Assumes nothing.
 use mathlib.Core.Path.{_≡_, refl, sym, ap, _∙_}
 use mathlib.Core.List.{List, [], _∷_, _++_, append-assoc}
 use Prim.Native.Nat.{ℕ, zero, suc, _+_, _*_}
@@ -9,7 +9,8 @@ use lib.ListN.{length, set, replicate, length-append}
 use Rattle.rules.specs.Limits.{recordCount, endCount, codeLimit}
 use Rattle.rules.specs.Bytes.{bytesOf, flat, pad}
 use Rattle.rules.specs.State.{free-end, registers, RecordState, free-record, running, emptySlots, start}
-use Rattle.rules.specs.Layout.{cellSize, recordSize, freeSize, recordsAt, freeAt, queuesAt, stateSize, registersBytes, noRegisters, recordBytes, freeWord, layout}
+use Rattle.rules.specs.Layout.{cellSize, recordSize, freeSize, recordsAt, freeAt, queuesAt, stateSize, registersBytes, noRegisters}
+use Rattle.rules.specs.Layout.{recordBytes, freeWord, layout}
 use Rattle.words.specs.Parts.{putAt}
 use Rattle.words.proofs.Parts.{put-append, put-all}
 use Rattle.words.proofs.Pads.{length-pad}

@@ -9,14 +9,16 @@ use lib.Seq.{getD-take, getD-drop}
 use Rattle.rules.specs.Limits.{recordCount, endCount, queueDepth}
 use Rattle.rules.specs.Bytes.{bytesOf, numberAt, flat}
 use Rattle.rules.specs.State.{State, EndState, free-end, RecordState, recordAt, endAt, setRecord, setEnd, queueLength}
-use Rattle.rules.specs.Layout.{cellSize, recordSize, freeSize, recordsAt, freeAt, partnersAt, countsAt, queuesAt, recordBytes, freeWord, partnerByte, queueCells, layout}
+use Rattle.rules.specs.Layout.{cellSize, recordSize, freeSize, recordsAt, freeAt, partnersAt, countsAt, queuesAt, recordBytes, freeWord}
+use Rattle.rules.specs.Layout.{partnerByte, queueCells, layout}
 use Rattle.words.specs.Parts.{putAt}
 use Rattle.words.proofs.Pads.{length-pad}
 use Rattle.words.proofs.Pieces.{length-flat, put-flat, cut-flat}
 use Rattle.keeping.proofs.LayoutLaws.{Sized}
 use Rattle.keeping.proofs.ViewLaws.{free-word-fits}
 use Rattle.memory.specs.Sections.{sectioned, cellsOf, partnersOf, countsOf, allCells}
-use Rattle.memory.proofs.Sections.{layout-is, put-record, number-record, put-word, number-word, put-partner, read-partner, put-count, read-count, number-cell, put-cells}
+use Rattle.memory.proofs.Sections.{layout-is, put-record, number-record, put-word, number-word, put-partner, read-partner, put-count}
+use Rattle.memory.proofs.Sections.{read-count, number-cell, put-cells}
 
 -- ---- lengths
 
@@ -38,7 +40,8 @@ length-all-cells l = length-flat cellsOf queueDepth length-cells l
 
 -- ---- one end put anew
 
-map-set : {A B : Type 0} (f : A → B) (l : List A) (i : ℕ) (x : A) → map f (set l i x) ≡ set (map f l) i (f x)
+-- a list with one thing anew, each thing changed alike
+pub map-set : {A B : Type 0} (f : A → B) (l : List A) (i : ℕ) (x : A) → map f (set l i x) ≡ set (map f l) i (f x)
 map-set f [] i x = refl
 map-set f (a ∷ l) zero x = refl
 map-set f (a ∷ l) (suc i) x = ap (λ (r : List _). f a ∷ r) (map-set f l i x)

@@ -48,7 +48,8 @@ module _ (st : State) (r next : ℕ) (g : Registers) where
   store-full f t = rw (f, t)
 
   pub store-done : fewer 1 g ≡ false → environmentFull g ≡ false
-      → answerTo st r next g store ≡ done (setRecord st r (running (registers next (drop 1 (g .stack)) (top g ∷ g .environment) (g .slots))))
+      → answerTo st r next g store
+      ≡ done (setRecord st r (running (registers next (drop 1 (g .stack)) (top g ∷ g .environment) (g .slots))))
   unfolding answerTo ownCauses sharedCauses unless after
   store-done f f′ = rw (f, f′)
 

@@ -1,5 +1,5 @@
-// Instructions on numbers: cst, access, store here; add, mul, leq in arithmetic.rt. Each tests its refusals in the order of document 01's numbers, then loads the
-// registers, changes them by value and saves them. The memory is known to be sound.
+// Instructions on numbers: cst, access, store here; add, mul, leq in arithmetic.rt. Each tests its refusals in the order of document 01's
+// numbers, then loads the registers, changes them by value and saves them. The memory is known to be sound.
 ghost use Prim.Native.Nat.{_<_};
 ghost use Rattle.rules.specs.Limits.{recordCount};
 ghost use Rattle.rules.specs.Numbers.{recordNumber};

@@ -12,16 +12,13 @@ use Rattle.rules.specs.Layout.{view}
 use Rattle.rules.specs.Calls.{layoutOr}
 use Rattle.rules.specs.Numbers.{replyTo}
 use Rattle.rules.specs.Promise.{Promise}
+use Rattle.rules.proofs.Promises.{isRefused}
 use Rattle.rules.specs.declared.Reply.{Reply}
 use Rattle.rules.specs.declared.Reply.the-variants.{Done, Refused}
 use Rattle.asking.specs.Stepped.{PositionStepped}
 use Rattle.runner.specs.declared.searching.Stepped.the-variants.{Nowhere, At}
 use Rattle.runner.specs.Runs.{steppedBy, memoryBy}
 use Rattle.runner.proofs.Search.{here, further}
-
-abbrev isRefused : Reply → ℕ
-isRefused Done = 0
-isRefused (Refused n) = 1
 
 -- what the position that is asked replies, and the memory then, with `count` positions asked before it
 module _ (m : List ℕ) (start p count : ℕ) (left : count < positionCount)

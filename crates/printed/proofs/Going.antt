@@ -16,9 +16,9 @@ use Rattle.rules.specs.declared.Reply.{Reply}
 use Rattle.rules.specs.declared.Reply.the-variants.{Done, Refused}
 use Rattle.keeping.proofs.RunLaws.{next-found}
 use Rattle.asking.specs.Stepped.{PositionStepped}
-use Rattle.runner.specs.declared.searching.Stepped as runner
 use Rattle.runner.specs.declared.searching.Stepped.the-variants as place
 use Rattle.runner.specs.Runs.{steppedBy, memoryBy}
+use Rattle.runner.proofs.Places.{isSomewhere, positionOf}
 use Rattle.printed.specs.declared.kinds.Printed.{Printed}
 use Rattle.printed.specs.declared.forward.Forward.the-variants.{Nowhere, Stepped}
 use Rattle.printed.specs.Meaning.{PrintsAt, printedOf}
@@ -29,16 +29,6 @@ use Rattle.printed.proofs.Telling.{done-prints, told-position}
 pub search-all : (st : State) (p : ℕ) → nextStep st p ≡ firstOf (positionCount - 0) st p
 unfolding nextStep
 search-all st p = refl
-
--- 0 for nowhere
-abbrev isSomewhere : runner.Stepped → ℕ
-isSomewhere place.Nowhere = 0
-isSomewhere (place.At p) = 1
-
--- the position, 0 for nowhere
-abbrev positionOf : runner.Stepped → ℕ
-positionOf place.Nowhere = 0
-positionOf (place.At p) = p
 
 -- the search has come from `position` to p, with the memory as it was
 module _ (m₀ : List ℕ) (position : ℕ) (m : List ℕ) (p tried : ℕ) (left-to-try : tried < positionCount) (same : m ≡ m₀)

@@ -11,18 +11,17 @@ use mir.Syntax.{w32}
 use mir.Val.{SFits}
 use Rattle.rules.specs.Limits.{positionCount}
 use Rattle.rules.specs.State.{State}
-use Rattle.rules.specs.Run.{Step, nextPosition, nextStep, steps, positionAfter}
+use Rattle.rules.specs.Run.{Step, nextPosition, nextStep, steps}
 use Rattle.rules.specs.Printed as rules
 use Rattle.rules.specs.Printed.{printedAt, lineText, linesText, traceBudget}
 use Rattle.rules.specs.Layout.{view}
 use Rattle.keeping.specs.Demand3.{SoundMemory}
-use Rattle.keeping.proofs.StepLaws.{steps-add, steps-stop, steps-one}
+use Rattle.keeping.proofs.StepLaws.{steps-one}
 use Rattle.text.specs.Written.{Written}
 use Rattle.text.proofs.Texts.{written-more, written-as}
-use Rattle.runner.specs.declared.searching.Stepped as runner
-use Rattle.runner.specs.declared.searching.Stepped.the-variants as place
 use Rattle.runner.specs.Runs.{steppedBy}
-use Rattle.runner.proofs.Making.{MadeSoFar, none-yet, shown, stopped, ended, position-in-range, one-more}
+use Rattle.runner.proofs.Places.{isSomewhere, no-step}
+use Rattle.runner.proofs.Making.{MadeSoFar, none-yet, more, none-more, stopped, ended, position-in-range, one-more}
 use Rattle.printed.specs.declared.kinds.Printed.{Printed}
 use Rattle.printed.specs.declared.forward.Forward.{Forward}
 use Rattle.printed.specs.declared.forward.Forward.the-variants.{Nowhere, Stepped}
@@ -62,40 +61,19 @@ no-lines m out s = record {
   within = omega arith;
 }
 
--- 0 for nowhere
-abbrev isSomewhere : runner.Stepped → ℕ
-isSomewhere place.Nowhere = 0
-isSomewhere (place.At p) = 1
-
 module _ (st : State) (out₀ : List ℕ) (end made next : ℕ) (m out : List ℕ) (lines : LinesSoFar st out₀ end made next m out) where
-  -- the steps of a larger budget
-  more : (j : ℕ) → steps (made + j) st 0 ≡ steps made st 0 ++ steps j (view m) next
-  more j =
-      let f = lines .so-far in
-      steps-add made j st 0 (f .all-made)
-      ∙ ap (λ (x : State). steps made st 0 ++ steps j x (positionAfter 0 (steps made st 0))) (sym (shown st 0 made next m f))
-      ∙ ap (λ (p : ℕ). steps made st 0 ++ steps j (view m) p) (sym (f .next-is))
-
   -- nothing can step: these are all lines
   pub lines-end : {answer : Forward} {left : List ℕ} → made ≤ traceBudget → Forwarded m (nextStep (view m) next) answer left
       → answer ≡ Nowhere → Traced st (steps traceBudget st 0) out₀ end made next left out
   lines-end {answer} {left} h f is =
-      let nothing = none-is (nextStep (view m) next) refl (ap steppedIn (sym is) ∙ f .made .answer-is) in
-      let whole : made + (traceBudget - made) ≡ traceBudget = omega (arith, h) in
-      let same : steps made st 0 ≡ steps traceBudget st 0 =
-      sym (ap (λ (b : ℕ). steps b st 0) (sym whole) ∙ more (traceBudget - made)
-      ∙ ap (λ (ts : List Step). steps made st 0 ++ ts) (steps-stop (traceBudget - made) (view m) next nothing)
-      ∙ append-nil (steps made st 0)) in
+      let nothing = no-step (nextStep (view m) next) (ap steppedIn (sym is) ∙ f .made .answer-is) in
+      let same : steps made st 0 ≡ steps traceBudget st 0 = sym (none-more st 0 made next m (lines .so-far) traceBudget h nothing) in
       record {
         ended = stopped st 0 made next m (lines .so-far) traceBudget h (f .made .answer-is) (f .made .memory-is) (ap steppedIn is);
         written = written-as (ap (linesText 1) same) (lines .written);
         within = lines .within;
         budgeted = h;
       }
-    where
-      none-is : (x : Option Step) → nextStep (view m) next ≡ x → place.Nowhere ≡ steppedBy x → nextStep (view m) next ≡ none
-      none-is none q z = q
-      none-is (some s) q z = absurd (omega (arith, ap isSomewhere z))
 
   -- the budget is used
   pub budget-end : made ≤ traceBudget → traceBudget ≤ made → Traced st (steps traceBudget st 0) out₀ end made next m out
@@ -131,7 +109,7 @@ module _ (st : State) (out₀ : List ℕ) (end made next : ℕ) (m out : List �
         go none q = absurd (omega (arith, ap isSomewhere (ap steppedIn (sym is) ∙ f .made .answer-is ∙ ap steppedBy q)))
         go (some s) q =
             let longer : steps (made + 1) st 0 ≡ steps made st 0 ++ s ∷ [] =
-            more 1 ∙ ap (λ (ts : List Step). steps made st 0 ++ ts) (steps-one (view m) next s q) in
+            more st 0 made next m (lines .so-far) 1 ∙ ap (λ (ts : List Step). steps made st 0 ++ ts) (steps-one (view m) next s q) in
             let told : some (printedOf x) ≡ printedAt (s .before) (s .position) =
             ap forwardPrinted (sym is) ∙ f .prints ∙ ap stepPrinted q in
             let count : 1 + length (steps made st 0) ≡ made + 1 = omega (arith, lines .so-far .all-made) in

@@ -14,7 +14,8 @@ use Rattle.rules.specs.Text.{text, decimal}
 use Rattle.rules.specs.Printed.{linesText, lastText, traceBudget, runText, answerText, traceText}
 use Rattle.rules.specs.Layout.{stateSize, layout, view}
 use Rattle.rules.specs.Calls.{started, loadAnswer, load}
-use Rattle.rules.specs.Numbers.{replyTo}
+use Rattle.rules.specs.Numbers.{replyTo, replyNumber}
+use Rattle.rules.proofs.Promises.{isRefused}
 use Rattle.rules.specs.Promise.{Promise}
 use Rattle.rules.specs.declared.Reply.{Reply}
 use Rattle.rules.specs.declared.Reply.the-variants.{Done, Refused}
@@ -50,16 +51,7 @@ module _ (st : State) (ss : List Step) {made next : ℕ} {left : List ℕ} (e : 
 
 -- ---- the image
 
--- 1 for a refusal
-abbrev pub isRefused : Reply → ℕ
-isRefused Done = 0
-isRefused (Refused n) = 1
-
--- the number of a refusal
-abbrev pub refusalOf : Reply → ℕ
-refusalOf Done = 0
-refusalOf (Refused n) = n
-
+-- the code of an image that is read, another where it is refused
 abbrev codeOr : List ℕ → Answer (List ℕ) → List ℕ
 codeOr code (refused n) = code
 codeOr code (done c) = c
@@ -81,7 +73,7 @@ module _ (m image : List ℕ) (length-is : length m ≡ stateSize) {reply : Repl
   refused-image n is = go (readImage image) (sym is ∙ p .answer-is ∙ ap replyTo answer-is)
     where
       go : (a : Answer (List ℕ)) → Refused n ≡ replyTo (started a) → text "refused " ++ decimal n ++ text "\n" ≡ answerText a
-      go (refused k) h = ap (λ (j : ℕ). text "refused " ++ decimal j ++ text "\n") (ap refusalOf h)
+      go (refused k) h = ap (λ (j : ℕ). text "refused " ++ decimal j ++ text "\n") (ap replyNumber h)
       go (done code) h = absurd (omega (arith, ap isRefused h))
 
   pub loaded-image : ((i : ℕ) → getD image i 0 < 256) → reply ≡ Done

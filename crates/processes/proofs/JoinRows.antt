@@ -45,8 +45,10 @@ module _ (st : State) (g : Registers) (c d : ℕ) where
       go (used m ds l) e = rw e (ap (λ (n : ℕ). eqb n y) (q ∙ ap (λ (z : EndState). endOr 0 (partnerOf z)) e))
 
 -- the length of a queue that is read
-pub some-queued : (st : State) (g : Registers) (c x k : ℕ) → x ≡ endIn g c → k ≡ queueLength (endAt st x) → 0 < k → queueNotEmpty st c g ≡ true
+pub some-queued : (st : State) (g : Registers) (c x k : ℕ) → x ≡ endIn g c → k ≡ queueLength (endAt st x) → 0 < k
+    → queueNotEmpty st c g ≡ true
 some-queued st g c x k xe q h = rw (sym xe) (lt-ltb 0 (queueLength (endAt st x)) (omega (arith, q, h)))
 
-pub none-queued : (st : State) (g : Registers) (c x k : ℕ) → x ≡ endIn g c → k ≡ queueLength (endAt st x) → k ≡ 0 → queueNotEmpty st c g ≡ false
+pub none-queued : (st : State) (g : Registers) (c x k : ℕ) → x ≡ endIn g c → k ≡ queueLength (endAt st x) → k ≡ 0
+    → queueNotEmpty st c g ≡ false
 none-queued st g c x k xe q h = rw (sym xe) (le-ltb 0 (queueLength (endAt st x)) (omega (arith, q, h)))

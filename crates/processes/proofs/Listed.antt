@@ -8,7 +8,8 @@ use lib.Seq.{getD-take, getD-drop}
 use Rattle.rules.specs.Instruction.{byteAt, slotsAt}
 use Rattle.words.proofs.Tables.{table-is}
 
-pub listed-part : (code : List ℕ) (at j : ℕ) → at + 5 + j ≤ length code → take (at + 5 + j - (at + 5)) (drop (at + 5) code) ≡ slotsAt code at 5 j
+pub listed-part : (code : List ℕ) (at j : ℕ) → at + 5 + j ≤ length code
+    → take (at + 5 + j - (at + 5)) (drop (at + 5) code) ≡ slotsAt code at 5 j
 unfolding slotsAt
 listed-part code at j h =
     let n : at + 5 + j - (at + 5) ≡ j = omega arith in

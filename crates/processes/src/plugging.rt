@@ -31,7 +31,8 @@ fn begin(m: &mut [u8], r: Record, held: Registers, a: Slot, to: Branch, e: End)
     requires { ⌜ (length (now m) ≡ stateSize) × (recordNumber r < recordCount) × (endNumber e < endCount) ⌝ }
     ensures { λ _. ⌜ ((st : State) (g : Process) → Sized st → now (m .entry) ≡ layout st → length (g .slots) ≡ slotCount
         → held ≡ registersOf g
-        → now (m .exit) ≡ layout (setRecord st (recordNumber r) (running (branch g (slotNumber a) (to .set) (to .place) (endNumber e))))) ⌝ }
+        → now (m .exit)
+        ≡ layout (setRecord st (recordNumber r) (running (branch g (slotNumber a) (to .set) (to .place) (endNumber e))))) ⌝ }
 {
     registers::save_running(m, r, held.branch(a, to.set, to.place, e));
 }

@@ -1,5 +1,5 @@
-// The process records in the lent state memory. Each contract speaks of every state st whose layout the memory holds: an answer is read off st, and
-// a write makes the memory the layout of st with that record anew, so that all other bytes stay.
+// The process records in the lent state memory. Each contract speaks of every state st whose layout the memory holds: an answer is read
+// off st, and a write makes the memory the layout of st with that record anew, so that all other bytes stay.
 ghost use mathlib.Core.Path.{_≡_};
 ghost use mathlib.Core.List.{[], _∷_, _++_};
 ghost use Prim.Native.Nat.{_+_, _*_, _≤_, _<_};

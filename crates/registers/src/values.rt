@@ -1,5 +1,5 @@
-// The cells of a stack or an environment, values first and zeros behind them: shifted by one, read from a slice of bytes and written into it.
-// The shifts are written out and the loops are plain, so that both become block moves.
+// The cells of a stack or an environment, values first and zeros behind them: shifted by one, read from a slice of bytes and written into
+// it. The shifts are written out and the loops are plain, so that both become block moves.
 ghost use mathlib.Core.Path.{_≡_};
 ghost use mathlib.Core.List.{List, _∷_};
 ghost use Prim.Native.Nat.{_+_, _*_, _≤_};

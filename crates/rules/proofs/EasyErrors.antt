@@ -13,7 +13,8 @@ use Rattle.rules.specs.Events.{events, newHistory, history}
 use Rattle.rules.specs.Layout.{optional}
 use Rattle.rules.specs.Image.{anyCheckWrong}
 use Rattle.rules.proofs.Computing.{computing}
-use Rattle.rules.proofs.SmallFacts.{asked, stateAfter, numberAfter, registersAfter, end, plugTo, cst-bytes, put-bytes, get-bytes, hput-bytes, same-bytes, Fact, fact, foundIn, saidIn}
+use Rattle.rules.proofs.SmallFacts.{asked, stateAfter, numberAfter, registersAfter, end, plugTo, cst-bytes, put-bytes, get-bytes}
+use Rattle.rules.proofs.SmallFacts.{hput-bytes, same-bytes, Fact, fact, foundIn, saidIn}
 
 abbrev numberIn : Datum → ℤ
 numberIn (value v) = v

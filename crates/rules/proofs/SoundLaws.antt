@@ -13,16 +13,22 @@ use lib.Signed.{mag}
 use lib.Dec.{eqb, ltb}
 use borrow.Author.Tests.{ltb-true, leb-true, eqb-true, eqb-false, not-true, lt-ltb, le-leb, eq-eqb, ne-eqb}
 use Rattle.rules.specs.Limits.{recordCount, endCount, valueBound, handleCount}
-use Rattle.rules.specs.State.{State, Value, Datum, value, handle, Last, split-item, close-item, wait-item, EndState, free-end, used, Registers, RecordState, free-record, running, waiting, recordAt, endAt, queueLength, lastOf, partnerOf, slotAt}
+use Rattle.rules.specs.State.{State, Value, Datum, value, handle, Last, split-item, close-item, wait-item, EndState, free-end, used}
+use Rattle.rules.specs.State.{Registers, RecordState, free-record, running, waiting, recordAt, endAt, queueLength, lastOf, partnerOf}
+use Rattle.rules.specs.State.{slotAt}
 use Rattle.rules.specs.Refusal.{noCause}
 use Rattle.rules.specs.Instruction.{Decoded, decode}
 use Rattle.rules.specs.Causes.{ownCauses, names}
 use Rattle.rules.specs.EndStep.{Wait, waitOf}
 use Rattle.rules.specs.Count.{total}
-use Rattle.rules.specs.Sound.{ValueWithin, DatumWithin, RegistersWithin, RecordWithin, EndWithin, Within, Paired, inSlot, heldIn, inLast, carriedBy, inUse, placesOf, namedBy, waitsNaming, isWaiting, StandsAt, Sound}
-use Rattle.rules.specs.SoundTest.{all, every, valueWithin, datumWithin, slotWithin, registersWithin, recordWithin, lastWithin, endWithin, byteWithin, within, pairedIn, pairedTest, placesTest, waitsTest, standsNamed, standsDecoded, standsIn, standsLast, standsTest, soundTest}
+use Rattle.rules.specs.Sound.{ValueWithin, DatumWithin, RegistersWithin, RecordWithin, EndWithin, Within, Paired, inSlot, heldIn}
+use Rattle.rules.specs.Sound.{inLast, carriedBy, inUse, placesOf, namedBy, waitsNaming, isWaiting, StandsAt, Sound}
+use Rattle.rules.specs.SoundTest.{all, every, valueWithin, datumWithin, slotWithin, registersWithin, recordWithin, lastWithin}
+use Rattle.rules.specs.SoundTest.{endWithin, byteWithin, within, pairedIn, pairedTest, placesTest, waitsTest, standsNamed}
+use Rattle.rules.specs.SoundTest.{standsDecoded, standsIn, standsLast, standsTest, soundTest}
 use Rattle.rules.proofs.CountLaws.{δ-same, δ-ne, total-one, total-zero, weighs-in}
-use Rattle.rules.proofs.TestLaws.{true-is-not-false, both, left-of, right-of, AllTrue, all-true-read, all-true-write, all-at, all-from, every-at, every-from, names-read, names-write, no-cause-read, no-cause-write}
+use Rattle.rules.proofs.TestLaws.{true-is-not-false, both, left-of, right-of, AllTrue, all-true-read, all-true-write, all-at}
+use Rattle.rules.proofs.TestLaws.{all-from, every-at, every-from, names-read, names-write, no-cause-read, no-cause-write}
 
 -- ---- from the test: S1
 

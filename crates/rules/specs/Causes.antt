@@ -11,8 +11,10 @@ use lib.IntN.{_+ℤ_, _*ℤ_, pos}
 use Rattle.rules.specs.Limits.{stackDepth, environmentDepth, queueDepth, valueBound}
 use Rattle.rules.specs.State.{State, Value, Registers, endAt, endIn, queueLength, partnerOf, freeEnds, freeRecords}
 use Rattle.rules.specs.Refusal.{Row}
-use Rattle.rules.specs.Instruction.{Instruction, cst, access, store, add, mul, leq, put, get, split, fork, plug, close, halt, same, hput, hcase, run}
-use Rattle.rules.specs.Slots.{over, isEmpty, emptied, inSet, overlap, notTogether, anyHeld, anyOver, anyEmpty, anyRepeated, allEmptied}
+use Rattle.rules.specs.Instruction.{Instruction, cst, access, store, add, mul, leq, put, get, split, fork, plug, close, halt, same}
+use Rattle.rules.specs.Instruction.{hput, hcase, run}
+use Rattle.rules.specs.Slots.{over, isEmpty, emptied, inSet, overlap, notTogether, anyHeld, anyOver, anyEmpty, anyRepeated}
+use Rattle.rules.specs.Slots.{allEmptied}
 
 -- ---- the stack
 

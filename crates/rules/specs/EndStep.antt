@@ -7,9 +7,12 @@ use mathlib.Core.List.{List, [], _∷_}
 use lib.ListN.{length, getD}
 use lib.Dec.{leb, ltb}
 use Rattle.rules.specs.Limits.{endCount}
-use Rattle.rules.specs.State.{State, Datum, value, handle, Last, split-item, close-item, wait-item, Item, datum, last, Registers, registers, RecordState, free-record, running, waiting, free-end, recordAt, endAt, setRecord, setEnd, headOf, behindHead, isFreeEnd}
+use Rattle.rules.specs.State.{State, Datum, value, handle, Last, split-item, close-item, wait-item, Item, datum, last, Registers}
+use Rattle.rules.specs.State.{registers, RecordState, free-record, running, waiting, free-end, recordAt, endAt, setRecord, setEnd}
+use Rattle.rules.specs.State.{headOf, behindHead, isFreeEnd}
 use Rattle.rules.specs.Refusal.{Row}
-use Rattle.rules.specs.Instruction.{Instruction, cst, access, store, add, mul, leq, put, get, split, fork, plug, close, halt, same, hput, hcase, run, Decoded, decode}
+use Rattle.rules.specs.Instruction.{Instruction, cst, access, store, add, mul, leq, put, get, split, fork, plug, close, halt, same}
+use Rattle.rules.specs.Instruction.{hput, hcase, run, Decoded, decode}
 use Rattle.rules.specs.Causes.{noFreeRecord}
 use Rattle.rules.specs.RecordStep.{branch, partnerIn}
 

@@ -7,7 +7,8 @@ use mathlib.Core.List.{List, [], _∷_, _++_}
 use lib.Dec.{ltb, eqb}
 use Rattle.rules.specs.Limits.{recordCount}
 use Rattle.rules.specs.State.{State, Datum, value, handle, Registers, RecordState, free-record, running, waiting, recordAt, endIn}
-use Rattle.rules.specs.Instruction.{Instruction, cst, access, store, add, mul, leq, put, get, split, fork, plug, close, halt, same, hput, hcase, run, Decoded, decode}
+use Rattle.rules.specs.Instruction.{Instruction, cst, access, store, add, mul, leq, put, get, split, fork, plug, close, halt, same}
+use Rattle.rules.specs.Instruction.{hput, hcase, run, Decoded, decode}
 use Rattle.rules.specs.Causes.{top}
 use Rattle.rules.specs.RecordStep.{Fresh, lowestFree}
 use Rattle.rules.specs.EndStep.{Meeting, mismatch, delivers, divides, closes, meeting}

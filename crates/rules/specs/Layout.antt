@@ -10,7 +10,8 @@ use mir.Syntax.{w32}
 use mir.Val.{toZ, ofZ}
 use Rattle.rules.specs.Limits.{recordCount, endCount, slotCount, stackDepth, environmentDepth, queueDepth, codeLimit}
 use Rattle.rules.specs.Bytes.{bytesOf, numberAt, flat, pad, pieces}
-use Rattle.rules.specs.State.{State, Value, Datum, value, handle, Last, split-item, close-item, wait-item, EndState, free-end, used, Registers, registers, RecordState, free-record, running, waiting, emptySlots, queueLength}
+use Rattle.rules.specs.State.{State, Value, Datum, value, handle, Last, split-item, close-item, wait-item, EndState, free-end, used}
+use Rattle.rules.specs.State.{Registers, registers, RecordState, free-record, running, waiting, emptySlots, queueLength}
 use Rattle.rules.specs.Slots.{lowBit}
 
 -- ---- sizes

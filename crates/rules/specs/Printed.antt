@@ -8,7 +8,10 @@ use lib.IntN.{ℤ, pos}
 use Rattle.rules.specs.Limits.{recordCount}
 use Rattle.rules.specs.State.{State, value, handle, RecordState, free-record, running, waiting, recordAt, start}
 use Rattle.rules.specs.Refusal.{Answer, refused, done}
-use Rattle.rules.specs.Instruction.{Instruction, cst, access, store, add, mul, leq, put, get, split, fork, plug, close, halt, same, hput, hcase, run, Name, cst-name, access-name, store-name, add-name, mul-name, leq-name, put-name, get-name, split-name, fork-name, plug-name, close-name, halt-name, same-name, hput-name, hcase-name, run-name, Decoded, decode}
+use Rattle.rules.specs.Instruction.{Instruction, cst, access, store, add, mul, leq, put, get, split, fork, plug, close, halt, same}
+use Rattle.rules.specs.Instruction.{hput, hcase, run, Name, cst-name, access-name, store-name, add-name, mul-name, leq-name, put-name}
+use Rattle.rules.specs.Instruction.{get-name, split-name, fork-name, plug-name, close-name, halt-name, same-name, hput-name}
+use Rattle.rules.specs.Instruction.{hcase-name, run-name, Decoded, decode}
 use Rattle.rules.specs.EndStep.{Meeting, mismatch, delivers, divides, closes, meeting}
 use Rattle.rules.specs.Run.{Step, steps, Ran, Verdict, spent, finished, stuck, ranBy}
 use Rattle.rules.specs.Image.{readImage}

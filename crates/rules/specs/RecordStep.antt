@@ -8,8 +8,11 @@ use lib.ListN.{getD, take, drop}
 use lib.IntN.{pos, _+ℤ_, _*ℤ_}
 use lib.Signed.{leZ}
 use Rattle.rules.specs.Limits.{endCount}
-use Rattle.rules.specs.State.{State, Value, Item, datum, last, value, handle, split-item, close-item, wait-item, Registers, registers, running, waiting, free-record, free-end, fresh-end, endAt, setRecord, setEnd, endIn, endOr, partnerOf, appended, withPartner, freeEnds, lowestFreeRecord}
-use Rattle.rules.specs.Instruction.{Instruction, cst, access, store, add, mul, leq, put, get, split, fork, plug, close, halt, same, hput, hcase, run}
+use Rattle.rules.specs.State.{State, Value, Item, datum, last, value, handle, split-item, close-item, wait-item, Registers, registers}
+use Rattle.rules.specs.State.{running, waiting, free-record, free-end, fresh-end, endAt, setRecord, setEnd, endIn, endOr, partnerOf}
+use Rattle.rules.specs.State.{appended, withPartner, freeEnds, lowestFreeRecord}
+use Rattle.rules.specs.Instruction.{Instruction, cst, access, store, add, mul, leq, put, get, split, fork, plug, close, halt, same}
+use Rattle.rules.specs.Instruction.{hput, hcase, run}
 use Rattle.rules.specs.Slots.{emptied, holding, keptBy, calleeSlots}
 use Rattle.rules.specs.Causes.{top, below}
 

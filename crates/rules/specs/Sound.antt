@@ -10,8 +10,11 @@ use lib.ListN.{length, getD}
 use lib.IntN.{pos}
 use lib.Signed.{mag}
 use Rattle.rules.specs.Count.{δ, total}
-use Rattle.rules.specs.Limits.{recordCount, endCount, slotCount, stackDepth, environmentDepth, queueDepth, codeLimit, placeCount, handleCount, valueBound}
-use Rattle.rules.specs.State.{State, Value, Datum, value, handle, Last, split-item, close-item, wait-item, EndState, free-end, used, Registers, RecordState, free-record, running, waiting, recordAt, endAt, queueLength, lastOf, partnerOf, slotAt}
+use Rattle.rules.specs.Limits.{recordCount, endCount, slotCount, stackDepth, environmentDepth, queueDepth, codeLimit, placeCount}
+use Rattle.rules.specs.Limits.{handleCount, valueBound}
+use Rattle.rules.specs.State.{State, Value, Datum, value, handle, Last, split-item, close-item, wait-item, EndState, free-end, used}
+use Rattle.rules.specs.State.{Registers, RecordState, free-record, running, waiting, recordAt, endAt, queueLength, lastOf, partnerOf}
+use Rattle.rules.specs.State.{slotAt}
 use Rattle.rules.specs.Refusal.{NoCause}
 use Rattle.rules.specs.Instruction.{Decoded, decode}
 use Rattle.rules.specs.Causes.{ownCauses}

@@ -7,8 +7,11 @@ use Prim.Native.Nat.{ℕ, zero, suc}
 use lib.ListN.{length}
 use lib.Signed.{mag}
 use lib.Dec.{leb, ltb, eqb}
-use Rattle.rules.specs.Limits.{recordCount, endCount, slotCount, stackDepth, environmentDepth, queueDepth, codeLimit, placeCount, handleCount, valueBound}
-use Rattle.rules.specs.State.{State, Value, Datum, value, handle, Last, split-item, close-item, wait-item, EndState, free-end, used, Registers, RecordState, free-record, running, waiting, recordAt, endAt, queueLength, lastOf, partnerOf, slotAt}
+use Rattle.rules.specs.Limits.{recordCount, endCount, slotCount, stackDepth, environmentDepth, queueDepth, codeLimit, placeCount}
+use Rattle.rules.specs.Limits.{handleCount, valueBound}
+use Rattle.rules.specs.State.{State, Value, Datum, value, handle, Last, split-item, close-item, wait-item, EndState, free-end, used}
+use Rattle.rules.specs.State.{Registers, RecordState, free-record, running, waiting, recordAt, endAt, queueLength, lastOf, partnerOf}
+use Rattle.rules.specs.State.{slotAt}
 use Rattle.rules.specs.Refusal.{noCause}
 use Rattle.rules.specs.Instruction.{Instruction, Decoded, decode}
 use Rattle.rules.specs.Causes.{ownCauses, names}

@@ -1,3 +1,4 @@
+pub mod Places
 pub mod Search
 pub mod Verdicts
 pub mod Making

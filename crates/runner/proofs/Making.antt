@@ -1,8 +1,8 @@
--- The loop of a run: the steps made so far are those of the budget used so far, the next one is added at their end, and where nothing can step
--- the rest of the budget makes none. Assumes nothing.
+-- The loop of a run: the steps made so far are those of the budget used so far, the next one is added at their end, and where nothing can
+-- step the rest of the budget makes none. Assumes nothing.
 use mathlib.Core.Path.{_≡_, refl, sym, ap, _∙_, subst}
 use mathlib.Core.Option.{Option, none, some}
-use mathlib.Core.List.{List, [], _∷_, _++_}
+use mathlib.Core.List.{List, [], _∷_, _++_, append-nil}
 use Prim.Native.Nat.{ℕ, _+_, _-_, _%_, _≤_, _<_}
 use native.Mathlib.Omega.{arith}
 use lib.ListN.{length, length-append}
@@ -15,13 +15,13 @@ use Rattle.keeping.specs.Demand3.{SoundMemory}
 use Rattle.keeping.specs.Runs.{FirstStep}
 use Rattle.keeping.proofs.Move.{move-sound}
 use Rattle.keeping.proofs.Asks.{ask-move}
-use Rattle.keeping.proofs.RunLaws.{ahead-is, next-found}
+use Rattle.keeping.proofs.RunLaws.{next-within, ahead-is, next-found}
 use Rattle.keeping.proofs.Memories.{sound-view, sound-layout}
 use Rattle.keeping.proofs.StepLaws.{steps-add, steps-stop, steps-one, reached-append, position-append}
 use Rattle.runner.specs.declared.searching.Stepped.{Stepped}
 use Rattle.runner.specs.declared.searching.Stepped.the-variants.{Nowhere, At}
 use Rattle.runner.specs.Runs.{steppedBy, memoryBy, Ended}
-use Rattle.runner.proofs.Search.{next-in-range}
+use Rattle.runner.proofs.Places.{isSomewhere, positionOf, no-step}
 
 -- so many steps have been made from st and start, the next position and the memory
 pub record MadeSoFar (st : State) (start made next : ℕ) (m : List ℕ) : Type 0 where
@@ -35,18 +35,6 @@ pub none-yet : (m : List ℕ) → SoundMemory m → (start : ℕ) → start < po
 unfolding steps reachedBy positionAfter
 none-yet m s start h = record { all-made = refl; next-is = refl; memory-is = s .laid-out; is-sound = s .state-sound; in-range = h }
 
-abbrev isNowhere : Stepped → ℕ
-isNowhere Nowhere = 0
-isNowhere (At p) = 1
-
-abbrev positionOf : Stepped → ℕ
-positionOf Nowhere = 0
-positionOf (At p) = p
-
-append-none : (ss : List Step) → ss ++ [] ≡ ss
-append-none [] = refl
-append-none (s ∷ ss) = ap (λ (ts : List Step). s ∷ ts) (append-none ss)
-
 module _ (st : State) (start made next : ℕ) (m : List ℕ) (so-far : MadeSoFar st start made next m) where
   ss : List Step
   ss = steps made st start
@@ -59,26 +47,25 @@ module _ (st : State) (start made next : ℕ) (m : List ℕ) (so-far : MadeSoFar
   memory-sound = subst SoundMemory (sym (so-far .memory-is)) (sound-layout _ (so-far .is-sound))
 
   -- the steps of a larger budget
-  more : (j : ℕ) → steps (made + j) st start ≡ steps made st start ++ steps j (view m) next
+  pub more : (j : ℕ) → steps (made + j) st start ≡ steps made st start ++ steps j (view m) next
   more j =
       steps-add made j st start (so-far .all-made)
       ∙ ap (λ (x : State). steps made st start ++ steps j x (positionAfter start (steps made st start))) (sym shown)
       ∙ ap (λ (p : ℕ). steps made st start ++ steps j (view m) p) (sym (so-far .next-is))
 
-  nothing : (x : Option Step) → nextStep (view m) next ≡ x → Nowhere ≡ steppedBy x → nextStep (view m) next ≡ none
-  nothing none q z = q
-  nothing (some s) q z = absurd (omega (arith, ap isNowhere z))
+  -- nothing can step: a larger budget makes no further step
+  pub none-more : (budget : ℕ) → made ≤ budget → nextStep (view m) next ≡ none → steps budget st start ≡ steps made st start
+  none-more budget h none-left =
+      let whole : made + (budget - made) ≡ budget = omega (arith, h) in
+      ap (λ (b : ℕ). steps b st start) (sym whole) ∙ more (budget - made)
+      ∙ ap (λ (ts : List Step). steps made st start ++ ts) (steps-stop (budget - made) (view m) next none-left)
+      ∙ append-nil (steps made st start)
 
   pub stopped : (budget : ℕ) → made ≤ budget → {r : Stepped} {left : List ℕ} → r ≡ steppedBy (nextStep (view m) next)
       → left ≡ memoryBy m (nextStep (view m) next) → r ≡ Nowhere → Ended st start (steps budget st start) made next left
   stopped budget h e q is =
-      let none-left = nothing (nextStep (view m) next) refl (sym is ∙ e) in
-      let whole : made + (budget - made) ≡ budget = omega (arith, h) in
-      let same : steps budget st start ≡ steps made st start =
-      ap (λ (b : ℕ). steps b st start) (sym whole) ∙ more (budget - made)
-      ∙ ap (λ (ts : List Step). steps made st start ++ ts) (steps-stop (budget - made) (view m) next none-left)
-      ∙ append-none (steps made st start) in
-      rw same
+      let none-left = no-step (nextStep (view m) next) (sym is ∙ e) in
+      rw (none-more budget h none-left)
       (record {
         made-is = sym (so-far .all-made);
         next-is = so-far .next-is;
@@ -100,11 +87,13 @@ module _ (st : State) (start made next : ℕ) (m : List ℕ) (so-far : MadeSoFar
       })
 
   -- a step that was made
-  made-one : (p : ℕ) (x : Option Step) → nextStep (view m) next ≡ x → At p ≡ steppedBy x → (s : Step) × (nextStep (view m) next ≡ some s) × (p ≡ s .position)
-  made-one p none q z = absurd (omega (arith, ap isNowhere z))
+  made-one : (p : ℕ) (x : Option Step) → nextStep (view m) next ≡ x → At p ≡ steppedBy x
+      → (s : Step) × (nextStep (view m) next ≡ some s) × (p ≡ s .position)
+  made-one p none q z = absurd (omega (arith, ap isSomewhere z))
   made-one p (some s) q z = (s, q, ap positionOf z)
 
-  module _ (p : ℕ) {r : Stepped} {left : List ℕ} (e : r ≡ steppedBy (nextStep (view m) next)) (q : left ≡ memoryBy m (nextStep (view m) next))
+  module _ (p : ℕ) {r : Stepped} {left : List ℕ} (e : r ≡ steppedBy (nextStep (view m) next))
+      (q : left ≡ memoryBy m (nextStep (view m) next))
       (is : r ≡ At p) where
     one : (s : Step) × (nextStep (view m) next ≡ some s) × (p ≡ s .position)
     one = made-one p (nextStep (view m) next) refl (sym is ∙ e)
@@ -136,5 +125,5 @@ module _ (st : State) (start made next : ℕ) (m : List ℕ) (so-far : MadeSoFar
           next-is = z ∙ ap nextPosition (one .2) ∙ sym after;
           memory-is = q ∙ ap (memoryBy m) (one .1) ∙ ap layout (sym reached);
           is-sound = subst Sound (sym reached) sound;
-          in-range = subst (λ (n : ℕ). n < positionCount) (sym z) (next-in-range p);
+          in-range = subst (λ (n : ℕ). n < positionCount) (sym z) (next-within p);
         }

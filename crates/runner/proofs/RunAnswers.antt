@@ -23,7 +23,8 @@ use Rattle.runner.specs.declared.verdict.Verdict.{Verdict}
 use Rattle.runner.specs.Runs.{verdictCode, Ended, ranReply}
 
 -- the memory that the steps leave
-pub left-sound : {st : State} {p : ℕ} {ss : List rules.Step} {made next : ℕ} {left : List ℕ} → Ended st p ss made next left → SoundMemory left
+pub left-sound : {st : State} {p : ℕ} {ss : List rules.Step} {made next : ℕ} {left : List ℕ} → Ended st p ss made next left
+    → SoundMemory left
 left-sound end = subst SoundMemory (sym (end .left-is)) (sound-layout _ (end .reached-sound))
 
 module _ (m : List ℕ) (budget start : ℕ) where

@@ -23,6 +23,7 @@ use Rattle.rules.specs.Layout.{view}
 use Rattle.rules.specs.Calls.{layoutOr}
 use Rattle.rules.specs.Numbers.{replyTo}
 use Rattle.rules.specs.Promise.{Promise}
+use Rattle.rules.proofs.Promises.{isRefused}
 use Rattle.rules.specs.declared.Reply.{Reply}
 use Rattle.rules.specs.declared.Reply.the-variants.{Done, Refused}
 use Rattle.registers.specs.declared.records.Status.{Status}
@@ -36,10 +37,7 @@ use Rattle.asking.proofs.Answers.{free, waits, of-a-record, of-an-end}
 use Rattle.runner.specs.declared.searching.Stepped.{Stepped}
 use Rattle.runner.specs.declared.searching.Stepped.the-variants.{Nowhere, At}
 use Rattle.runner.specs.Runs.{PassedTo, steppedBy, memoryBy}
-
-pub next-in-range : (p : ℕ) → nextPosition p < positionCount
-unfolding nextPosition
-next-in-range p = omega arith
+use Rattle.runner.proofs.Places.{isSomewhere, no-step}
 
 -- ---- positions that are not worth asking
 
@@ -154,7 +152,8 @@ module _ (st : State) where
   abbrev decides : (p n : ℕ) → Answer State → Option Step
   decides p n a = elim a [ refused k ↦ firstOf n st (nextPosition p) | done x ↦ some (record { position = p; before = st; reached = x }) ]
 
-  pub here : (p n : ℕ) (st′ : State) → ask st p ≡ done st′ → firstOf (suc n) st p ≡ some (record { position = p; before = st; reached = st′ })
+  pub here : (p n : ℕ) (st′ : State) → ask st p ≡ done st′
+      → firstOf (suc n) st p ≡ some (record { position = p; before = st; reached = st′ })
   unfolding firstOf
   here p n st′ e = ap (decides p n) e
 
@@ -223,10 +222,6 @@ module _ (st : State) where
 
 -- ---- the step between two positions
 
-abbrev isRefused : Reply → ℕ
-isRefused Done = 0
-isRefused (Refused n) = 1
-
 -- the search below `to` has come from `from` to p, with the memory as it was
 module _ (m₀ : List ℕ) (from p to : ℕ) (passed : PassedTo (view m₀) from p positionCount) (last : to ≤ positionCount) {m : List ℕ}
     (same : m ≡ m₀) where
@@ -271,10 +266,6 @@ module _ (m₀ : List ℕ) (from p to : ℕ) (passed : PassedTo (view m₀) from
 
 -- ---- from a position to the last one, and from the first one to it
 
-abbrev isSomewhere : Stepped → ℕ
-isSomewhere Nowhere = 0
-isSomewhere (At p) = 1
-
 module _ (m : List ℕ) (p : ℕ) (h : p < positionCount) where
   -- the step that is made next, from p up to the last position or else below p
   halves : nextStep (view m) p ≡ orElse (view m) (firstOf (positionCount - p) (view m) p) (firstOf (p - 0) (view m) 0)
@@ -302,14 +293,10 @@ module _ (m : List ℕ) (p : ℕ) (h : p < positionCount) where
 
   -- none was: the memory is as it was, and the step below p is the one
   module _ {middle : List ℕ}
-      (none-above : Promise (steppedBy (firstOf (positionCount - p) (view m) p)) (memoryBy m (firstOf (positionCount - p) (view m) p)) Nowhere
-      middle) where
+      (none-above : Promise (steppedBy (firstOf (positionCount - p) (view m) p)) (memoryBy m (firstOf (positionCount - p) (view m) p))
+      Nowhere middle) where
     nothing : firstOf (positionCount - p) (view m) p ≡ none
-    nothing = go (firstOf (positionCount - p) (view m) p) refl
-      where
-        go : (x : Option Step) → firstOf (positionCount - p) (view m) p ≡ x → firstOf (positionCount - p) (view m) p ≡ none
-        go none e = e
-        go (some s) e = absurd (omega (arith, ap isSomewhere (none-above .answer-is ∙ ap steppedBy e)))
+    nothing = no-step (firstOf (positionCount - p) (view m) p) (none-above .answer-is)
 
     pub unmoved : middle ≡ m
     unmoved = none-above .memory-is ∙ ap (memoryBy m) nothing

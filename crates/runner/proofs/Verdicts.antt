@@ -11,10 +11,10 @@ use mathlib.Core.Logic.{⊎-elim}
 use lib.ListN.{length, getD}
 use Rattle.rules.specs.State.{State, RecordState, free-record, isFreeRecord, recordAt}
 use Rattle.rules.specs.Run.{Step, allFree, nextStep, verdictOf}
-use Rattle.runner.specs.declared.searching.Stepped.{Stepped}
 use Rattle.runner.specs.declared.searching.Stepped.the-variants.{Nowhere, At}
 use Rattle.runner.specs.declared.verdict.Verdict.the-variants.{Spent, Finished, Stuck}
 use Rattle.runner.specs.Runs.{verdictCode, steppedBy}
+use Rattle.runner.proofs.Places.{isSomewhere, no-step}
 
 -- ---- every record is free
 
@@ -22,7 +22,8 @@ pub none-in-use : (l : List RecordState) → ((j : ℕ) → j < length l → isF
 unfolding allFree
 none-in-use [] h = refl
 none-in-use (x ∷ xs) h =
-    none-in-use xs (λ j p. h (suc j) (omega (arith, p))) ∙ sym (ap (λ (b : Bool). elim b [ true ↦ allFree xs | false ↦ false ]) (h 0 (omega arith)))
+    none-in-use xs (λ j p. h (suc j) (omega (arith, p)))
+    ∙ sym (ap (λ (b : Bool). elim b [ true ↦ allFree xs | false ↦ false ]) (h 0 (omega arith)))
 
 pub one-in-use : (l : List RecordState) (k : ℕ) → isFreeRecord (getD l k free-record) ≡ false → false ≡ allFree l
 unfolding allFree
@@ -43,10 +44,6 @@ one-more-free st k f h j p = ⊎-elim (λ (q : j ≡ k). rw q h) (f j) (eq-or-lt
 
 -- ---- the verdict
 
-abbrev isNowhere : Stepped → ℕ
-isNowhere Nowhere = 0
-isNowhere (At p) = 1
-
 module _ (st : State) where
   pub is-spent : (p : ℕ) → At p ≡ steppedBy (nextStep st 0) → Spent ≡ verdictCode (verdictOf st)
   unfolding verdictOf
@@ -54,19 +51,12 @@ module _ (st : State) where
     where
       go : (x : Option Step) → nextStep st 0 ≡ x → At p ≡ steppedBy x → Spent ≡ verdictCode (verdictOf st)
       go (some s) q z = rw q
-      go none q z = absurd (omega (arith, ap isNowhere z))
-
-  nothing : Nowhere ≡ steppedBy (nextStep st 0) → nextStep st 0 ≡ none
-  nothing e = go (nextStep st 0) refl e
-    where
-      go : (x : Option Step) → nextStep st 0 ≡ x → Nowhere ≡ steppedBy x → nextStep st 0 ≡ none
-      go none q z = q
-      go (some s) q z = absurd (omega (arith, ap isNowhere z))
+      go none q z = absurd (omega (arith, ap isSomewhere z))
 
   pub is-finished : Nowhere ≡ steppedBy (nextStep st 0) → allFree (st .records) ≡ true → Finished ≡ verdictCode (verdictOf st)
   unfolding verdictOf
-  is-finished e h = rw (nothing e, h)
+  is-finished e h = rw (no-step (nextStep st 0) e, h)
 
   pub is-stuck : Nowhere ≡ steppedBy (nextStep st 0) → allFree (st .records) ≡ false → Stuck ≡ verdictCode (verdictOf st)
   unfolding verdictOf
-  is-stuck e h = rw (nothing e, h)
+  is-stuck e h = rw (no-step (nextStep st 0) e, h)

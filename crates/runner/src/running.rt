@@ -39,7 +39,8 @@ struct Count {
 fn make_steps(m: &mut [u8], lengths: &[u8; 256], budget: u16, start: u32) -> Count
     requires { ⌜ (length (now m) ≡ stateSize) × (start < positionCount) ⌝ }
     requires { ⌜ SoundMemory (now m) × (now lengths ≡ lengthsOfRules) ⌝ }
-    ensures { λ r. ⌜ Ended (view (now (m .entry))) start (steps budget (view (now (m .entry))) start) (r .made) (r .next) (now (m .exit)) ⌝ }
+    ensures { λ r. ⌜ Ended (view (now (m .entry))) start (steps budget (view (now (m .entry))) start) (r .made) (r .next)
+        (now (m .exit)) ⌝ }
 {
     let mut next = start;
     let mut made = 0;

@@ -1,5 +1,5 @@
-// The verdict: spent if something can step, otherwise finished if no record is in use, else stuck. Whether something can step is tried on a copy
-// of the memory, so that no second set of tests stands beside the steps themselves.
+// The verdict: spent if something can step, otherwise finished if no record is in use, else stuck. Whether something can step is tried on
+// a copy of the memory, so that no second set of tests stands beside the steps themselves.
 ghost use mathlib.Core.Path.{_≡_};
 ghost use mathlib.Core.Bool.{true};
 ghost use lib.ListN.{length};

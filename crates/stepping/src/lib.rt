@@ -1,5 +1,5 @@
-// What the functions that step one record share: the translation of a local slot to an end, and the code's slice. The form of their promise is
-// in specs/, the laws that each of them cites are in proofs/.
+// What the functions that step one record share: the translation of a local slot to an end, and the code's slice. The form of their
+// promise is in specs/, the laws that each of them cites are in proofs/.
 ghost use mathlib.Core.Path.{_≡_};
 ghost use Rattle.rules.specs.State.{Registers as Process, endIn};
 ghost use Rattle.rules.specs.Layout.{view};

@@ -22,7 +22,8 @@ returns c =
     let at-call = c .before .before .before in
     let a = at-call .before .before .before .args in
     let promise = at-call .ask-record .ensures in
-    (c .number-of .ensures ∙ ap replyNumber (promise .answer-is) ∙ reply-number (recordAnswer (a .state .now) (a .«record»)), promise .memory-is)
+    let number = c .number-of .ensures ∙ ap replyNumber (promise .answer-is) ∙ reply-number (recordAnswer (a .state .now) (a .«record»)) in
+    (number, promise .memory-is)
 
 pub amul-ask-record-spec : {M : Type 1} → statement M
 amul-ask-record-spec = tie.close (tie.spec ask-record-requires number-of-requires same-length returns)

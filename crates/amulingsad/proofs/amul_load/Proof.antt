@@ -22,7 +22,8 @@ returns c =
     let at-call = c .before .before .before in
     let a = at-call .before .before .before .before .args in
     let promise = at-call .load .ensures in
-    (c .number-of .ensures ∙ ap replyNumber (promise .answer-is) ∙ reply-number (loadAnswer (a .state .now) (a .image .now)), promise .memory-is)
+    let number = c .number-of .ensures ∙ ap replyNumber (promise .answer-is) ∙ reply-number (loadAnswer (a .state .now) (a .image .now)) in
+    (number, promise .memory-is)
 
 pub amul-load-spec : {M : Type 1} → statement M
 amul-load-spec = tie.close (tie.spec load-requires number-of-requires same-length returns)

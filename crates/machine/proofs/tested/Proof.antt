@@ -17,13 +17,15 @@ returns-2 : tie.Need-returns-2
 returns-2 c =
     let at-test = c .before in
     let at-if = at-test .before in
-    not-sound (at-if .before .before .args .state .now) (at-if .if1 .left) (sym (at-test .is-sound .ensures) ∙ not-true (at-test .is-sound .result) (c .if2 .taken))
+    not-sound (at-if .before .before .args .state .now) (at-if .if1 .left)
+    (sym (at-test .is-sound .ensures) ∙ not-true (at-test .is-sound .result) (c .if2 .taken))
 
 returns-3 : tie.Need-returns-3
 returns-3 c =
     let at-test = c .before in
     let at-if = at-test .before in
-    is-right (at-if .before .before .args .state .now) (at-if .if1 .left) (sym (at-test .is-sound .ensures) ∙ not-false (at-test .is-sound .result) (c .if2 .left))
+    is-right (at-if .before .before .args .state .now) (at-if .if1 .left)
+    (sym (at-test .is-sound .ensures) ∙ not-false (at-test .is-sound .result) (c .if2 .left))
 
 pub tested-spec : {M : Type 1} → statement M
 tested-spec = tie.close (tie.spec returns is-sound-requires returns-2 returns-3)

@@ -29,7 +29,8 @@ returns c =
     let at-put-cells = at-put8 .before .before .before .before in
     let at-clear = at-put-cells .before .before .before .before .before in
     let at-start = at-clear .before .before .before in
-    start-written (at-start .args .m .now) (at-start .pre) (at-clear .clear .ensures) (at-put-cells .put-cells .ensures) (at-put8 .put8 .ensures)
+    start-written (at-start .args .m .now) (at-start .pre) (at-clear .clear .ensures)
+    (at-put-cells .put-cells .ensures) (at-put8 .put8 .ensures)
     (at-put64 .put64 .ensures)
 
 pub start-spec : {M : Type 1} → statement M

@@ -8,7 +8,7 @@ use Rattle.rules.specs.Limits.{positionCount}
 use Rattle.rules.specs.Run.{firstOf, nextStep}
 use Rattle.rules.specs.Layout.{view}
 use Rattle.keeping.specs.Demand3.{SoundMemory}
-use Rattle.runner.proofs.Search.{next-in-range}
+use Rattle.keeping.proofs.RunLaws.{next-within}
 use Rattle.printed.proofs.Going.{search-all, turn-done, turn-on, none-steps}
 use Rattle.printed.proofs.forward.step_forward.Statement.{statement}
 use Rattle.printed.proofs.forward.step_forward.Tie as tie
@@ -79,7 +79,7 @@ loop-again c =
     let next = c .position-after .ensures in
     let on = turn-on (a .m .now) (a .position) (l .m) (l .p) (l .tried) (at-test .loop-test .taken) (l .inv .2) (l .inv .3)
     (at-step .step .ensures) _ (c .position-after .result) (at-told .enum-told2 .given .1) next in
-    (omega (arith, at-test .loop-test .taken), rw next (next-in-range (l .p)), on .0, on .1)
+    (omega (arith, at-test .loop-test .taken), rw next (next-within (l .p)), on .0, on .1)
 
 same-length-2 : tie.Need-same-length-2 Inv-loop μ-loop
 same-length-2 c = search needs

@@ -27,7 +27,8 @@ part-result-start c = search needs
 part-result-end : tie.Need-part-result-end
 part-result-end c =
     let a = c .before .before .args in
-    let in-code : a .at + 5 + a .j ≤ length (c .code .result .now) = omega (arith, c .before .before .pre .1, ap length (c .code .ensures)) in
+    let in-code : a .at + 5 + a .j ≤ length (c .code .result .now) =
+    omega (arith, c .before .before .pre .1, ap length (c .code .ensures)) in
     search needs
 
 returns : tie.Need-returns
@@ -36,7 +37,8 @@ returns c =
     let at-start = at-code .before .before in
     let a = at-start .args in
     let from = a .at + 5 in
-    ap (λ (code : List _). take (from + a .j - from) (drop from code)) (at-code .code .ensures) ∙ listed-part _ (a .at) (a .j) (at-start .pre .1)
+    ap (λ (code : List _). take (from + a .j - from) (drop from code)) (at-code .code .ensures)
+    ∙ listed-part _ (a .at) (a .j) (at-start .pre .1)
 
 pub listed-spec : {M : Type 1} → statement M
 listed-spec =

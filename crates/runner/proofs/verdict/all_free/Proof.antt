@@ -56,7 +56,8 @@ loop-again c =
     let r = at-loop .loop .r in (
       omega (arith, at-status .before .loop-test .taken),
       one-more-free (view m) r (at-loop .loop .inv .1)
-          (is-free (recordAt (view m) r) (at-status .status-of .ensures (view m) (memory-sized m s) (s .laid-out)) (c .enum-told .given .1)),
+          (is-free (recordAt (view m) r) (at-status .status-of .ensures (view m) (memory-sized m s) (s .laid-out))
+          (c .enum-told .given .1)),
     )
 
 returns-2 : tie.Need-returns-2 Inv-loop μ-loop

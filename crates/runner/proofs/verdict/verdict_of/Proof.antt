@@ -30,7 +30,8 @@ returns-2 c =
     let at-told = at-free .before in
     let at-would = at-told .before .before in
     let m = at-would .before .before .args .m .now in
-    is-finished (view m) (sym (at-told .enum-told2 .given .1) ∙ at-would .would-step .ensures) (sym (at-free .all-free .ensures) ∙ c .if1 .taken)
+    is-finished (view m) (sym (at-told .enum-told2 .given .1) ∙ at-would .would-step .ensures)
+    (sym (at-free .all-free .ensures) ∙ c .if1 .taken)
 
 returns-3 : tie.Need-returns-3
 returns-3 c =
@@ -38,7 +39,8 @@ returns-3 c =
     let at-told = at-free .before in
     let at-would = at-told .before .before in
     let m = at-would .before .before .args .m .now in
-    is-stuck (view m) (sym (at-told .enum-told2 .given .1) ∙ at-would .would-step .ensures) (sym (at-free .all-free .ensures) ∙ c .if1 .left)
+    is-stuck (view m) (sym (at-told .enum-told2 .given .1) ∙ at-would .would-step .ensures)
+    (sym (at-free .all-free .ensures) ∙ c .if1 .left)
 
 pub verdict-of-spec : {M : Type 1} → statement M
 verdict-of-spec =
