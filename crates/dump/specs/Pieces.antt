@@ -1,5 +1,5 @@
--- What the functions inside print: what stands between the things of a list, and the process that registers of the code show. Assumes
--- nothing.
+-- What the functions inside print: what stands between the things of a list, the items of one end, and the process that registers of the
+-- code show. Assumes nothing.
 use Prim.Native.Nat.{ℕ, zero, suc}
 use mathlib.Core.List.{List, [], map}
 use lib.ListN.{take}
