@@ -5,18 +5,15 @@ use Rattle.rules.specs.Image.{blockCount}
 use Rattle.answers.proofs.requests.image_size.Statement.{statement}
 use Rattle.answers.proofs.requests.image_size.Tie as tie
 
-add-result : tie.Need-add-result
-add-result c = search needs
-
-add-result-2 : tie.Need-add-result-2
-add-result-2 c = search needs
+block-count-requires : tie.Need-block-count-requires
+block-count-requires c κs = search needs
 
 mul-result : tie.Need-mul-result
-mul-result c = search needs
+unfolding blockCount
+mul-result c = search (needs, c .block-count .ensures, c .before .pre)
 
 returns : tie.Need-returns
-unfolding blockCount
-returns c = omega arith
+returns c = search needs
 
 pub image-size-spec : {M : Type 1} → statement M
-image-size-spec = tie.close (tie.spec add-result add-result-2 mul-result returns)
+image-size-spec = tie.close (tie.spec block-count-requires mul-result returns)
