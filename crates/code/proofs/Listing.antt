@@ -20,8 +20,3 @@ module _ (code : List ℕ) (place k n : ℕ) where
   pub listed-place : (i : ℕ) → i < n → getD (placesAt code place k n) i 0 ≡ placeAt code place (k + 2 * i)
   unfolding placesAt
   listed-place i h = getD-table n (λ (j : ℕ). placeAt code place (k + 2 * j)) i 0 h
-
-  -- slot i of n
-  pub listed-slot : (i : ℕ) → i < n → getD (slotsAt code place k n) i 0 ≡ byteAt code place (k + i)
-  unfolding slotsAt
-  listed-slot i h = getD-table n (λ (j : ℕ). byteAt code place (k + j)) i 0 h

@@ -1,28 +1,23 @@
--- The cells of one end's queue: as many as there are items, each fits, the first holds the head, and the last one's kind says whether it is
--- a last item. Assumes nothing.
+-- The cells of one end's queue: as many as there are items, each fits, the first holds the head, and each holds its item. Assumes nothing.
 use mathlib.Core.Path.{_≡_, refl, ap, _∙_}
-use mathlib.Core.Bool.{false}
 use mathlib.Core.Option.{Option, none, some}
-use mathlib.Core.List.{List, [], _∷_, _++_, map, append-nil}
-use Prim.Native.Nat.{ℕ, zero, suc, _+_, _-_, _*_, _%_, _^_, _≤_, _<_}
+use mathlib.Core.List.{List, [], _∷_, _++_, map}
+use Prim.Native.Nat.{ℕ, zero, suc, _+_, _-_, _^_, _≤_, _<_}
 use native.Mathlib.Omega.{arith}
-use lib.Dec.{leb}
 use lib.ListN.{length, getD, length-append, length-map}
-use lib.Seq.{getD-at}
-use borrow.Author.Tests.{le-leb, lt-leb}
 use mir.Syntax.{w32}
 use mir.Facts.{fits-ofZ}
 use Rattle.rules.specs.Limits.{queueDepth}
 use Rattle.rules.specs.Bytes.{pad}
 use Rattle.rules.specs.State.{Datum, value, handle, Last, split-item, close-item, wait-item, Item, datum, last}
-use Rattle.rules.specs.State.{EndState, free-end, used, queueLength, headOf, lastOf}
+use Rattle.rules.specs.State.{EndState, free-end, used, queueLength, headOf}
 use Rattle.rules.specs.Layout.{cellSize, datumCell, lastCell, lastCells, queueCells}
 use Rattle.rules.specs.Sound.{DatumWithin}
 use Rattle.words.proofs.Pads.{getD-pad, pad-all}
 use Rattle.keeping.proofs.ViewLaws.{LastFits}
 use Rattle.memory.specs.Sections.{cellsOf}
 use Rattle.ends.specs.Items.{ItemFits, itemCell, cellItem}
-use Rattle.ends.specs.Ends.{EndFits, isGiven, itemAt}
+use Rattle.ends.specs.Ends.{EndFits, itemAt}
 use Rattle.ends.proofs.Items.{cell-item, cell-none}
 
 -- ---- lengths
@@ -101,39 +96,3 @@ item-cell x f i h = ap cellItem (getD-pad queueDepth 0 (queueCells x) i h) ∙ g
     go : (x : EndState) → EndFits x → cellItem (getD (queueCells x) i 0) ≡ itemAt i x
     go free-end f = cell-none ∙ free-at i
     go (used m ds l) f = queue-item m ds l (f .within .1) (f .last-fits) i
-
--- ---- the last item
-
-datum-kind : (ds : List Datum) (i : ℕ) → getD (map datumCell ds) i 0 % 256 < 3
-unfolding datumCell
-datum-kind [] i = omega arith
-datum-kind (value v ∷ ds) zero = omega arith
-datum-kind (handle n ∷ ds) zero = omega arith
-datum-kind (d ∷ ds) (suc i) = datum-kind ds i
-
-last-kind : (l : Last) → 3 ≤ lastCell l % 256
-unfolding lastCell
-last-kind (split-item p q) = let n : ℕ = p + 256 * q in omega arith
-last-kind close-item = omega arith
-last-kind (wait-item r) = omega arith
-
-pub last-cell : (x : EndState) → EndFits x → 0 < queueLength x → leb 3 (getD (cellsOf x) (queueLength x - 1) 0 % 256) ≡ isGiven (lastOf x)
-unfolding cellsOf queueCells lastCells
-last-cell free-end f h = absurd (omega arith)
-last-cell (used m ds none) f h =
-    let i : ℕ = length ds - 1 in
-    let inside : i < queueDepth = omega (arith, f .within .0) in
-    rw (getD-pad queueDepth 0 (map datumCell ds ++ []) i inside, append-nil (map datumCell ds))
-    (lt-leb 3 (getD (map datumCell ds) i 0 % 256) (datum-kind ds i))
-last-cell (used m ds (some l)) f h =
-    let cells : List ℕ = map datumCell ds ++ lastCell l ∷ [] in
-    let i : suc (length ds) - 1 ≡ length ds = omega arith in
-    let inside : length ds < queueDepth = omega (arith, f .within .0) in
-    let here : getD cells (length ds) 0 ≡ lastCell l = getD-at (map datumCell ds) (lastCell l) [] 0 (length ds) (length-map ds datumCell) in
-    rw (i, getD-pad queueDepth 0 cells (length ds) inside, here) (le-leb 3 (lastCell l % 256) (last-kind l))
-
--- an empty queue has none
-pub none-given : (x : EndState) → queueLength x ≡ 0 → isGiven (lastOf x) ≡ false
-none-given free-end h = refl
-none-given (used m ds none) h = refl
-none-given (used m ds (some l)) h = absurd (omega arith)

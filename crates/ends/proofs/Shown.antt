@@ -1,16 +1,13 @@
 -- What the layout of a state shows of one end is that end of the state. Assumes nothing.
 use mathlib.Core.Path.{_≡_, refl, sym, ap, _∙_}
-use mathlib.Core.Bool.{false}
 use mathlib.Core.List.{List}
 use Prim.Native.Nat.{ℕ, zero, suc, _+_, _≤_, _<_}
 use native.Mathlib.Omega.{arith}
 use lib.ListN.{getD}
 use Rattle.rules.specs.Limits.{endCount, queueDepth}
 use Rattle.rules.specs.Bytes.{numberAt}
-use Rattle.rules.specs.State.{State, EndState, free-end, used, endAt, endOr, partnerOf, queueLength, isFreeEnd}
-use Rattle.rules.specs.RecordStep.{partnerIn}
+use Rattle.rules.specs.State.{State, EndState, free-end, used, endAt, endOr, partnerOf, queueLength}
 use Rattle.rules.specs.Layout.{freeSize, cellSize, freeAt, countsAt, freeWord, partnerByte, layout}
-use Rattle.rules.proofs.TestLaws.{true-is-not-false}
 use Rattle.words.proofs.Tables.{table-is}
 use Rattle.keeping.proofs.LayoutLaws.{Sized}
 use Rattle.memory.specs.Sections.{cellsOf}
@@ -23,14 +20,6 @@ partner-of : (x : EndState) → partnerByte x ≡ endOr 0 (partnerOf x)
 unfolding partnerByte
 partner-of free-end = refl
 partner-of (used m ds l) = refl
-
--- the partner of an end in use, as `rules` has it
-pub partner-known : (st : State) (e : ℕ) → isFreeEnd (endAt st e) ≡ false → endOr 0 (partnerOf (endAt st e)) ≡ partnerIn st e
-partner-known st e u = go (endAt st e) u
-  where
-    go : (x : EndState) → isFreeEnd x ≡ false → endOr 0 (partnerOf x) ≡ endOr endCount (partnerOf x)
-    go free-end u = true-is-not-false refl u
-    go (used m ds l) u = refl
 
 -- a number that is zero stands in bytes that are zero
 zeros-in : (k : ℕ) (m : List ℕ) (at : ℕ) → numberAt k m at ≡ 0 → (i : ℕ) → i < k → getD m (at + i) 0 ≡ 0

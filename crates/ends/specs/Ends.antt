@@ -1,8 +1,7 @@
 -- What the contracts on one end ask of it, and say of its queue. Assumes nothing.
 use Prim.Native.Nat.{ℕ, zero, suc}
-use mathlib.Core.Bool.{Bool, true, false}
-use mathlib.Core.Option.{Option, none, some}
-use Rattle.rules.specs.State.{EndState, Item, Last, headOf, behindHead, lastOf}
+use mathlib.Core.Option.{Option}
+use Rattle.rules.specs.State.{EndState, Item, headOf, behindHead, lastOf}
 use Rattle.rules.specs.Sound.{EndWithin}
 use Rattle.keeping.proofs.ViewLaws.{LastFits}
 
@@ -10,11 +9,6 @@ use Rattle.keeping.proofs.ViewLaws.{LastFits}
 pub record EndFits (x : EndState) : Type 0 where
   pub within : EndWithin x
   pub last-fits : LastFits (lastOf x)
-
--- there is a last item
-abbrev pub isGiven : Option Last → Bool
-isGiven none = false
-isGiven (some l) = true
 
 -- the item at an index of the queue: the head, once so many heads are removed
 unfoldable pub itemAt : (index : ℕ) → EndState → Option Item

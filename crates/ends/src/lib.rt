@@ -18,6 +18,5 @@ pub use reading::free_word;
 pub use reading::head;
 pub use reading::is_free;
 pub use reading::item_at;
-pub use reading::last_given;
 pub use reading::partner;
 pub use reading::queued;

@@ -1,16 +1,16 @@
-// One end of the state memory: is it free, its partner, how many items are queued on it, what heads its queue, what stands at
-// an index of it, and whether its last item is given. Each answer is that of the state whose layout the memory is.
+// One end of the state memory: is it free, its partner, how many items are queued on it, what heads its queue, and what stands at an index
+// of it; and how many ends in a row have nothing queued. Each answer is that of the state whose layout the memory is.
 ghost use mathlib.Core.Path.{_≡_};
 ghost use Prim.Native.Nat.{ℕ, _+_, _≤_, _<_};
 ghost use lib.ListN.{length};
 ghost use Rattle.rules.specs.Limits.{endCount, queueDepth};
 ghost use Rattle.rules.specs.Numbers.{endNumber};
-ghost use Rattle.rules.specs.State.{State, endAt, endOr, isFreeEnd, partnerOf, queueLength, headOf, lastOf};
+ghost use Rattle.rules.specs.State.{State, endAt, endOr, isFreeEnd, partnerOf, queueLength, headOf};
 ghost use Rattle.rules.specs.Layout.{stateSize, freeWord, layout};
 ghost use Rattle.keeping.proofs.LayoutLaws.{Sized};
 ghost use Rattle.ends.specs.Items.{headIn};
 ghost use Rattle.ends.specs.Sections.{countIn};
-ghost use Rattle.ends.specs.Ends.{EndFits, isGiven, itemAt};
+ghost use Rattle.ends.specs.Ends.{EndFits, itemAt};
 use crate::item::Head;
 use crate::item::item_in;
 use crate::section::get_cell;
@@ -88,17 +88,4 @@ pub fn empty_from(m: &[u8], end: End) -> u8
         return 1;
     }
     0
-}
-
-// Is the last item given, a split, a close or a wait?
-pub fn last_given(m: &[u8], end: End) -> bool
-    requires { ⌜ (length (now m) ≡ stateSize) × (endNumber end < endCount) × (countIn (now m) (endNumber end) ≤ queueDepth) ⌝ }
-    ensures { λ r. ⌜ ((st : State) → Sized st → now (m .entry) ≡ layout st → EndFits (endAt st (endNumber end))
-        → r ≡ isGiven (lastOf (endAt st (endNumber end)))) ⌝ }
-{
-    let count = queued(m, end);
-    if count == 0 {
-        return false;
-    }
-    3 <= get_cell(m, end, count - 1) % 256
 }

@@ -5,7 +5,7 @@ use mathlib.Core.Bool.{Bool, true, false}
 use Prim.Native.Nat.{ℕ, zero, suc, _+_, _*_, _/_, _%_, _≤_, _<_}
 use native.Mathlib.Nat.{le-of-suc-le-suc}
 use native.Mathlib.Omega.{arith}
-use borrow.Author.Tests.{ltb-true, eqb-true, lt-ltb, le-ltb, eq-eqb, ne-eqb}
+use borrow.Author.Tests.{ltb-true, lt-ltb, le-ltb, eq-eqb, ne-eqb}
 use lib.ListN.{length, getD, set, take}
 use lib.Seq.{take-all}
 use lib.Dec.{ltb, eqb}
@@ -57,14 +57,7 @@ digit-below base (b ∷ word) zero h l = ltb-true (digitValue b) base (both-firs
 digit-below base (b ∷ word) (suc i) h l =
     digit-below base word i (both-second (ltb (digitValue b) base) (allDigits base word) h) (le-of-suc-le-suc l)
 
--- a hex word has an even length, and digits only
-pub hex-even : (word : List ℕ) → isHex word ≡ true → length word % 2 ≡ 0
-unfolding isHex
-hex-even word h =
-    let rest : Bool = both (eqb (length word % 2) 0) (allDigits 16 word) in
-    let digits = both-second (ltb 0 (length word)) rest h in
-    eqb-true (length word % 2) 0 (both-first (eqb (length word % 2) 0) (allDigits 16 word) digits)
-
+-- a hex word has digits only
 pub hex-digits : (word : List ℕ) → isHex word ≡ true → allDigits 16 word ≡ true
 unfolding isHex
 hex-digits word h =
