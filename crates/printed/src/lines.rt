@@ -18,6 +18,8 @@ use rules::RECORD_COUNT;
 use runner::Verdict;
 use text::put_bytes;
 use text::put_decimal;
+use text::put_letter;
+use text::put_lettered;
 use text::put_signed;
 
 // R and the record, or E and the end.
@@ -26,11 +28,9 @@ fn put_position(out: &mut [u8], at: usize, position: u32) -> usize
     ensures { λ r. ⌜ Written (now (out .entry)) at (positionText position) (now (out .exit)) r ⌝ }
 {
     if position < RECORD_COUNT as u32 {
-        let record = put_bytes(out, at, b"R");
-        return put_decimal(out, record, position as u64);
+        return put_lettered(out, at, b'R', position as u64);
     }
-    let end = put_bytes(out, at, b"E");
-    put_decimal(out, end, (position - RECORD_COUNT as u32) as u64)
+    put_lettered(out, at, b'E', (position - RECORD_COUNT as u32) as u64)
 }
 
 // The instruction's name, or value or handle with its number, or split or close.
@@ -52,11 +52,11 @@ pub fn put_line(out: &mut [u8], at: usize, number: u32, x: Printed) -> usize
 {
     let kind = x.kind;
     let space = put_decimal(out, at, number as u64);
-    let asked = put_bytes(out, space, b" ");
+    let asked = put_letter(out, space, b' ');
     let behind = put_position(out, asked, x.position);
-    let made = put_bytes(out, behind, b" ");
+    let made = put_letter(out, behind, b' ');
     let end = put_kind(out, made, kind, x.number);
-    put_bytes(out, end, b"\n")
+    put_letter(out, end, b'\n')
 }
 
 // The only line for an image that is refused.
@@ -66,7 +66,7 @@ pub fn put_refused(out: &mut [u8], at: usize, n: u8) -> usize
 {
     let number = put_bytes(out, at, b"refused ");
     let end = put_decimal(out, number, n as u64);
-    put_bytes(out, end, b"\n")
+    put_letter(out, end, b'\n')
 }
 
 // The word of a verdict.
@@ -83,9 +83,7 @@ pub fn put_last(out: &mut [u8], at: usize, verdict: Verdict, made: u16, next: u3
     ensures { λ r. ⌜ Written (now (out .entry)) at (lastLine verdict made next) (now (out .exit)) r ⌝ }
 {
     let space = put_verdict(out, at, verdict);
-    let steps = put_bytes(out, space, b" ");
-    let behind = put_decimal(out, steps, made as u64);
-    let position = put_bytes(out, behind, b" ");
-    let end = put_decimal(out, position, next as u64);
-    put_bytes(out, end, b"\n")
+    let behind = put_lettered(out, space, b' ', made as u64);
+    let end = put_lettered(out, behind, b' ', next as u64);
+    put_letter(out, end, b'\n')
 }
