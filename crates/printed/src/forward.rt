@@ -29,7 +29,7 @@ pub fn step_forward(m: &mut [u8], lengths: &[u8; 256], position: u32) -> Forward
     let mut p = position;
     let mut tried = 0;
     while tried < POSITION_COUNT {
-        let shown = printed_at(m, lengths, p);
+        let shown = printed_at(m, p);
         if let Reply::Done = asking::step(m, lengths, p) {
             return Forward::Stepped(shown);
         }

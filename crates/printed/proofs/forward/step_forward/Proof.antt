@@ -30,7 +30,7 @@ printed-at-requires c κs =
     let pre = at-loop .before .before .pre in
     let inv = at-loop .loop .inv in
     let same = sym (inv .2) in
-    ((ap length (inv .2) ∙ pre .0 .0, inv .1), (subst SoundMemory same (pre .1 .0), pre .1 .1))
+    (ap length (inv .2) ∙ pre .0 .0, inv .1, subst SoundMemory same (pre .1 .0))
 
 step-requires : tie.Need-step-requires Inv-loop μ-loop
 step-requires c κs =
