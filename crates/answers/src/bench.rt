@@ -12,7 +12,7 @@ use crate::lines::put_hex_line;
 use crate::lines::put_number_line;
 use commands::LINE_LIMIT;
 use rules::UNSOUND;
-use rules::places::STATE_SIZE;
+use rules::offsets::STATE_SIZE;
 use text::length_before;
 use text::put_bytes;
 

@@ -11,7 +11,6 @@ ghost use Rattle.text.specs.Written.{Written};
 ghost use Rattle.printed.specs.Meaning.{verdictIn};
 ghost use Rattle.answers.specs.Answers.{loadAnswered, writeAnswered, stepText, recordAnswered, endAnswered, madeText, runAnswered};
 ghost use Rattle.answers.specs.Answers.{countedText, freeAnswered};
-use crate::lines::number_of;
 use crate::lines::put_hex_line;
 use crate::lines::put_number_line;
 use crate::lines::put_verdict_line;
@@ -20,6 +19,7 @@ use image::BLOCK_SIZE;
 use image::block_count;
 use machine::FreeEnds;
 use rules::Reply;
+use rules::number_of;
 use runner::Ran;
 use runner::Verdict;
 use text::put_bytes;
@@ -35,7 +35,7 @@ pub fn load(image: &[u8], state: &mut [u8], out: &mut [u8]) -> usize
     ensures leaves { λ _. ⌜ now (state .exit) ≡ loadOf (now (state .entry)) (now (image .entry)) .memory ⌝ }
 {
     let reply = machine::load(state, image);
-    put_number_line(out, 0, b"load ", number_of(reply))
+    put_number_line(out, 0, b"load ", number_of(reply) as u64)
 }
 
 // The bytes of the image of a code of so many bytes.
@@ -69,7 +69,7 @@ fn put_step(out: &mut [u8], name: &[u8], n: u32, reply: Reply) -> usize
 {
     let number = put_bytes(out, 0, name);
     let behind = put_decimal(out, number, n as u64);
-    put_number_line(out, behind, b": ", number_of(reply))
+    put_number_line(out, behind, b": ", number_of(reply) as u64)
 }
 
 // `R n`: a record is asked to step.

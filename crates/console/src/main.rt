@@ -10,7 +10,7 @@ use answers::OUTPUT_SIZE;
 use commands::LINE_LIMIT;
 use libc::STDIN_FILENO;
 use libc::STDOUT_FILENO;
-use rules::places::STATE_SIZE;
+use rules::offsets::STATE_SIZE;
 use text::length_before;
 
 const LINE_END: u8 = 10;

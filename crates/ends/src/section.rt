@@ -10,11 +10,11 @@ ghost use Rattle.ends.specs.Sections.{wordIn, withWord, partnerByteIn, w
 ghost use Rattle.ends.specs.Sections.{cellAt, cellIn, withCell, cellsIn, withCells};
 use rules::End;
 use rules::QUEUE_DEPTH;
-use rules::places::CELL_SIZE;
-use rules::places::COUNTS_AT;
-use rules::places::FREE_AT;
-use rules::places::PARTNERS_AT;
-use rules::places::QUEUES_AT;
+use rules::offsets::CELL_SIZE;
+use rules::offsets::COUNTS_AT;
+use rules::offsets::FREE_AT;
+use rules::offsets::PARTNERS_AT;
+use rules::offsets::QUEUES_AT;
 use words::get8;
 use words::get64;
 use words::put8;

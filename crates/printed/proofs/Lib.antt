@@ -1,6 +1,5 @@
 pub mod Telling
 pub mod Naming
-pub mod Asking
 pub mod Going
 pub mod WordLaws
 pub mod LineBytes

@@ -12,7 +12,7 @@ ghost use Rattle.rules.specs.Layout.{valueSize, valueBytes};
 ghost use Rattle.words.specs.Parts.{putAt};
 ghost use Rattle.registers.specs.Registers.{valuesAt};
 use rules::STACK_DEPTH;
-use rules::places::VALUE_SIZE;
+use rules::offsets::VALUE_SIZE;
 
 // v in front of the values.
 pub fn in_front(v: i32, values: [i32; STACK_DEPTH]) -> [i32; STACK_DEPTH]

@@ -1,4 +1,4 @@
-// Bytes as numbers to reckon places with.
+// Counts that stand in one byte, as numbers to reckon with.
 ghost use mathlib.Core.Path.{_≡_};
 
 // A byte that is a count.
