@@ -3,7 +3,7 @@
 use Prim.Native.Nat.{ℕ}
 use mathlib.Core.Path.{_≡_, refl}
 use mathlib.Core.Option.{Option, none, some}
-use mathlib.Core.List.{List, [], _∷_, _++_}
+use mathlib.Core.List.{[], _∷_, _++_}
 use lib.ListN.{replicate}
 use Rattle.rules.specs.Instruction.{Instruction, Decoded, decode, access, get, fork, plug, halt, same, hcase, run}
 use Rattle.rules.proofs.Computing.{computing}

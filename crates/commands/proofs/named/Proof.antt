@@ -1,10 +1,9 @@
 -- `named` is one case of the definition for each name. Assumes nothing.
 use mathlib.Core.Path.{_≡_, sym, ap}
 use mathlib.Core.List.{List}
-use Prim.Native.Nat.{ℕ, _≤_}
+use Prim.Native.Nat.{ℕ}
 use native.Mathlib.Omega.{arith}
 use lib.ListN.{take}
-use Rattle.commands.specs.Asked.{Asked}
 use Rattle.commands.specs.Meaning.{asks, firstLimit}
 use Rattle.commands.specs.declared.Name.{Name}
 use borrow.Author.Needs.{needs}
