@@ -28,6 +28,10 @@ abbrev Made : (m : List ℕ) (position : ℕ) → Place → (left : List ℕ) �
 Made m position where′ left =
     Promise (steppedBy (nextStep (view m) position)) (memoryBy m (nextStep (view m) position)) where′ left
 
+-- where it is made is known
+pub told : {is x y : Place} {after left : List ℕ} → Promise is after x left → x ≡ y → Promise is after y left
+told made e = record { answer-is = sym e ∙ made .answer-is; memory-is = made .memory-is }
+
 module _ (m : List ℕ) (position : ℕ) {p : ℕ} {left : List ℕ} (made : Made m position (place.At p) left) where
   pub position-below : position < positionCount → p < positionCount
   position-below h = go (nextStep (view m) position) refl
@@ -49,14 +53,14 @@ module _ (m : List ℕ) (position : ℕ) {p : ℕ} {left : List ℕ} (made : Mad
       go (some s) q =
           let first = next-found (view m) position s q in
           let here : p ≡ s .position = ap positionOf (made .answer-is ∙ ap steppedBy q) in
-          let told = done-prints (view m) (s .position) (s .reached) (first .is-step) in
-          let there = subst (λ (k : ℕ). printedAt (view m) k ≡ some (told .what)) (sym here) (told .prints) in
-          let what : printedOf shown ≡ told .what = read (told .what) there in
+          let text = done-prints (view m) (s .position) (s .reached) (first .is-step) in
+          let there = subst (λ (k : ℕ). printedAt (view m) k ≡ some (text .what)) (sym here) (text .prints) in
+          let what : printedOf shown ≡ text .what = read (text .what) there in
           let at : shown .position ≡ p =
-          ap (λ (x : rules.Printed). x .position) what ∙ told-position (view m) p (told .what) there in
+          ap (λ (x : rules.Printed). x .position) what ∙ told-position (view m) p (text .what) there in
           record {
             made = record { answer-is = ap place.At at ∙ made .answer-is; memory-is = made .memory-is };
-            prints = ap some what ∙ sym (told .prints) ∙ ap (λ (st : State). printedAt st (s .position)) (sym (first .before-is))
+            prints = ap some what ∙ sym (text .prints) ∙ ap (λ (st : State). printedAt st (s .position)) (sym (first .before-is))
                 ∙ ap stepPrinted (sym q);
           }
 
