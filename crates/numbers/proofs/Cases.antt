@@ -71,7 +71,8 @@ module _ (st : State) (r next : ℕ) (g : Registers) where
   made-few Product t = rw t
   made-few Order t = rw t
 
-  pub made-checked : (made : Made) → fewer 2 g ≡ false → checked st r next g (madeOf made (top g) (below g)) ≡ answerTo st r next g (makes made)
+  pub made-checked : (made : Made) → fewer 2 g ≡ false
+      → checked st r next g (madeOf made (top g) (below g)) ≡ answerTo st r next g (makes made)
   unfolding answerTo ownCauses sharedCauses unless after
   made-checked Sum f = rw f
   made-checked Product f = rw f

@@ -18,8 +18,8 @@ ghost use Rattle.soundness.specs.Counts.{slotsInAll, placesInAll, Below,
 use crate::counts::add_one;
 use crate::lasts::Last;
 use crate::lasts::last_of;
-use canonical::is_free;
 use canonical::counts::wide;
+use canonical::is_free;
 use rules::END_COUNT;
 use rules::RECORD_COUNT;
 use rules::offsets::FREE_AT;

@@ -1,6 +1,5 @@
 -- The word in the verdict's row. Assumes nothing.
 use mathlib.Core.Path.{_≡_, ap, _∙_}
-use Prim.Native.Nat.{ℕ}
 use borrow.Author.Needs.{needs}
 use Rattle.rules.specs.Printed.{verdictText}
 use Rattle.text.proofs.Texts.{written-as, room-as}

@@ -6,11 +6,9 @@ use Prim.Native.Nat.{ℕ, _≤_}
 use lib.ListN.{length, getD}
 use lib.IntN.{pos}
 use borrow.Author.Needs.{needs}
-use Rattle.rules.specs.State.{recordAt}
 use Rattle.rules.specs.Instruction.{decode}
 use Rattle.rules.specs.Printed.{Printed, printed, instruction-kind, printedDecoded, printedAt}
 use Rattle.rules.specs.Layout.{view}
-use Rattle.registers.specs.Registers.{registersIn}
 use Rattle.stepping.proofs.Steps.{memory-sized}
 use Rattle.printed.specs.Meaning.{rowOf, nameIn}
 use Rattle.printed.proofs.Telling.{record-prints}
