@@ -18,9 +18,9 @@ use crate::section::get_eight_counts;
 use crate::word::names;
 use rules::END_COUNT;
 use rules::End;
-use rules::places::COUNTS_AT;
-use rules::places::FREE_AT;
-use rules::places::PARTNERS_AT;
+use rules::offsets::COUNTS_AT;
+use rules::offsets::FREE_AT;
+use rules::offsets::PARTNERS_AT;
 use words::get8;
 use words::get64;
 
