@@ -3,21 +3,11 @@
 ghost use mathlib.Core.Path.{_≡_};
 ghost use Rattle.rules.specs.Refusal.{numberOf};
 ghost use Rattle.rules.specs.Calls.{load, write, callRecord, callEnd, callFreeEnds, runAnswer, callRun};
-ghost use Rattle.rules.specs.Numbers.{replyNumber};
 ghost use Rattle.amulingsad.specs.Answers.{countOr, lowestOr, stepsOr, nextOr, verdictOr, verdictNumber};
 use machine::FreeEnds;
-use rules::Reply;
+use rules::number_of;
 use runner::Ran;
 use runner::Verdict;
-
-fn number_of(reply: Reply) -> u8
-    ensures { λ r. ⌜ r ≡ replyNumber reply ⌝ }
-{
-    match reply {
-        Reply::Done => 0,
-        Reply::Refused(n) => n,
-    }
-}
 
 fn number_of_verdict(verdict: Verdict) -> u8
     ensures { λ r. ⌜ r ≡ verdictNumber verdict ⌝ }

@@ -9,14 +9,15 @@ use lib.Seq.{take-at}
 use borrow.Author.Tests.{eq-eqb, ltb-false, le-leb, lt-leb}
 use Rattle.rules.specs.Limits.{codeLimit}
 use Rattle.rules.specs.Bytes.{pad}
-use Rattle.rules.specs.Refusal.{Answer, refused, done, unless}
+use Rattle.rules.specs.Refusal.{Answer, refused, done, numberOf, unless}
 use Rattle.rules.specs.Run as run
 use Rattle.rules.specs.Image.{blockSize, dataSize, blockCount, headed, imageOf, writeCauses, written}
 use Rattle.rules.specs.Layout.{stateSize, view}
 use Rattle.rules.specs.Calls.{soundBytes, outputOr, writeAnswer, write}
 use Rattle.rules.specs.Numbers.{replyTo, replyNumber}
-use Rattle.rules.proofs.Promises.{isRefused}
+use Rattle.rules.proofs.Promises.{isRefused, reply-number}
 use Rattle.rules.specs.Text.{text}
+use Rattle.rules.specs.declared.Reply.{Reply}
 use Rattle.rules.specs.declared.Reply.the-variants.{Done, Refused}
 use Rattle.rules.proofs.Rows.{all-passed}
 use Rattle.words.specs.Parts.{putAt}
@@ -28,8 +29,15 @@ use Rattle.runner.specs.Runs.{ranReply}
 use Rattle.dump.specs.Shown.{stateText}
 use Rattle.printed.specs.Meaning.{verdictIn}
 use Rattle.printed.proofs.Whole.{named-back}
-use Rattle.answers.specs.Answers.{numberLine, hexLine, imageRoom, writtenText, writeText, madeText, ranText}
-use Rattle.answers.specs.Answers.{dumpText, peekText, pokeText, poked}
+use Rattle.answers.specs.Answers.{numberLine, hexLine, imageRoom, writtenText, writeAnswered, stepText, madeText, ranText}
+use Rattle.answers.specs.Answers.{dumpAnswered, peekAnswered, pokeAnswered, poked}
+
+-- ---- a step
+
+-- what is printed with the reply to an ask
+pub step-replied : {A : Type 0} (name : List ℕ) (n : ℕ) {reply : Reply} (a : Answer A) → reply ≡ replyTo a
+    → stepText name n (replyNumber reply) ≡ stepText name n (numberOf a)
+step-replied name n a is = ap (λ (k : ℕ). stepText name n k) (ap replyNumber is ∙ reply-number a)
 
 -- ---- a run
 
@@ -81,11 +89,11 @@ pub record Written-image (code after : List ℕ) : Type 0 where
   pub short : length code ≤ codeLimit
   pub long : blockSize * blockCount (length code) ≤ length after
   pub front-is : take (blockSize * blockCount (length code)) after ≡ imageOf code
-  pub text-is : numberLine (text "write ") 0 ++ hexLine (imageOf code) ≡ writeText code
+  pub text-is : numberLine (text "write ") 0 ++ hexLine (imageOf code) ≡ writeAnswered code
 
 pub image-done : (code room : List ℕ) {after : List ℕ} → room ≡ imageRoom → Done ≡ replyTo (writeAnswer code room)
     → after ≡ write code room .memory → Written-image code after
-unfolding write written writeText
+unfolding write written writeAnswered
 image-done code room {after} is e left =
     let answer = write-done code room (writeAnswer code room) refl e in
     let n : ℕ = blockSize * blockCount (length code) in
@@ -101,36 +109,36 @@ image-done code room {after} is e left =
 
 -- a memory that is the layout of no sound state, and one that is
 module _ (state : List ℕ) (size : length state ≡ stateSize) where
-  pub dump-unsound : soundBytes state ≡ false → numberLine (text "dump: refused ") 1 ≡ dumpText state
-  unfolding dumpText unless
+  pub dump-unsound : soundBytes state ≡ false → numberLine (text "dump: refused ") 1 ≡ dumpAnswered state
+  unfolding dumpAnswered unless
   dump-unsound h = rw (eq-eqb (length state) stateSize size, h) refl
 
-  pub dump-sound : soundBytes state ≡ true → stateText (view state) ≡ dumpText state
-  unfolding dumpText unless
+  pub dump-sound : soundBytes state ≡ true → stateText (view state) ≡ dumpAnswered state
+  unfolding dumpAnswered unless
   dump-sound h = rw (eq-eqb (length state) stateSize size, h) refl
 
 -- bytes that do not all lie within the memory, and such as do
-pub peek-outside : (state : List ℕ) (at count : ℕ) → length state < at + count → text "peek: out of range\n" ≡ peekText state at count
-unfolding peekText
+pub peek-outside : (state : List ℕ) (at count : ℕ) → length state < at + count → text "peek: out of range\n" ≡ peekAnswered state at count
+unfolding peekAnswered
 peek-outside state at count h = rw (lt-leb (at + count) (length state) h) refl
 
 pub peek-inside : (state : List ℕ) (at count : ℕ) → at + count ≤ length state
-    → hexLine (take (at + count - at) (drop at state)) ≡ peekText state at count
-unfolding peekText
+    → hexLine (take (at + count - at) (drop at state)) ≡ peekAnswered state at count
+unfolding peekAnswered
 peek-inside state at count h =
     let e : at + count - at ≡ count = omega arith in
     rw (e, le-leb (at + count) (length state) h) refl
 
 pub poke-outside : (state : List ℕ) (at : ℕ) (bytes : List ℕ) → length state < at + length bytes
-    → (text "poke: out of range\n" ≡ pokeText state at bytes) × (state ≡ poked state at bytes)
-unfolding pokeText poked
+    → (text "poke: out of range\n" ≡ pokeAnswered state at bytes) × (state ≡ poked state at bytes)
+unfolding pokeAnswered poked
 poke-outside state at bytes h =
     let e = lt-leb (at + length bytes) (length state) h in
     (rw e refl, rw e refl)
 
 pub poke-inside : (state : List ℕ) (at : ℕ) (bytes : List ℕ) → at + length bytes ≤ length state
-    → (text "poke: ok\n" ≡ pokeText state at bytes) × (putAt state at bytes ≡ poked state at bytes)
-unfolding pokeText poked
+    → (text "poke: ok\n" ≡ pokeAnswered state at bytes) × (putAt state at bytes ≡ poked state at bytes)
+unfolding pokeAnswered poked
 poke-inside state at bytes h =
     let e = le-leb (at + length bytes) (length state) h in
     (rw e refl, rw e refl)

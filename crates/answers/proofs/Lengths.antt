@@ -17,12 +17,14 @@ use Rattle.rules.specs.Text.{text}
 use Rattle.rules.specs.Printed.{verdictText}
 use Rattle.keeping.proofs.Memories.{memory-of-test}
 use Rattle.text.proofs.Shortness.{decimal-room}
-use Rattle.commands.specs.Asked.{Asked, unknown, free, dump, load, write, record-step, end-step, run, peek, poke}
-use Rattle.commands.specs.Asked.{lineLimit, firstWord, when}
+use Rattle.commands.specs.Asked.{Asked, unknown, remark, free, dump, load, write, record-step, end-step, run, peek, poke}
+use Rattle.commands.specs.Asked.{asked, lineLimit, firstWord, when}
+use Rattle.commands.proofs.Parsing.{remark-short}
 use Rattle.dump.proofs.Lengths.{state-room}
 use Rattle.answers.specs.Sizes.{outputSize}
-use Rattle.answers.specs.Answers.{numberLine, hexLine, loadText, imageRoom, writtenText, writeText, stepText, recordText, endText}
-use Rattle.answers.specs.Answers.{ranText, runText, freeEndsText, freeText, dumpText, peekText, pokeText, answerText}
+use Rattle.answers.specs.Answers.{numberLine, hexLine, loadAnswered, imageRoom, writtenText, writeAnswered, stepText}
+use Rattle.answers.specs.Answers.{recordAnswered, endAnswered, ranText, runAnswered, freeEndsText, freeAnswered, dumpAnswered}
+use Rattle.answers.specs.Answers.{peekAnswered, pokeAnswered, answerText}
 use Rattle.answers.proofs.Texts.{number-length, hex-length, verdict-length, step-length, made-length, counted-length}
 use Rattle.answers.proofs.Texts.{unknown-length}
 use Rattle.answers.proofs.Cases.{image-length, image-short, write-done, dump-unsound, dump-sound}
@@ -79,7 +81,7 @@ free-most (done x) =
 
 -- ---- the bench
 
-dump-most : (state : List ℕ) → length state ≡ stateSize → (b : Bool) → soundBytes state ≡ b → length (dumpText state) ≤ outputSize
+dump-most : (state : List ℕ) → length state ≡ stateSize → (b : Bool) → soundBytes state ≡ b → length (dumpAnswered state) ≤ outputSize
 unfolding text
 dump-most state size true is =
     omega (arith, ap length (dump-sound state size is), state-room state (memory-of-test state is))
@@ -101,16 +103,18 @@ poke-most false = omega arith
 
 -- ---- every answer
 
-pub answer-short : (line state : List ℕ) (a : Asked) → length state ≡ stateSize → length (answerText line state a) ≤ outputSize
-unfolding loadText writeText recordText endText runText freeText peekText pokeText text
-answer-short line state unknown size =
+pub answer-short : (line state : List ℕ) (a : Asked) → a ≡ asked line → length state ≡ stateSize
+    → length (answerText line state a) ≤ outputSize
+unfolding loadAnswered writeAnswered recordAnswered endAnswered runAnswered freeAnswered peekAnswered pokeAnswered text
+answer-short line state remark is size = omega (arith, length-append line (text "\n"), remark-short line is)
+answer-short line state unknown is size =
     omega (arith, unknown-length line, length-take lineLimit (firstWord line))
-answer-short line state (load image) size = omega (arith, number-most (text "load ") (calls.load state image .number))
-answer-short line state (write code) size = written-most code (writeAnswer code imageRoom) refl
-answer-short line state (record-step n) size = omega (arith, step-most (text "R ") n (callRecord state n .number))
-answer-short line state (end-step n) size = omega (arith, step-most (text "E ") n (callEnd state n .number))
-answer-short line state (run budget start) size = ran-most (runAnswer state budget start)
-answer-short line state free size = free-most (callFreeEnds state)
-answer-short line state dump size = dump-most state size (soundBytes state) refl
-answer-short line state (peek at count) size = peek-most state at count size (leb (at + count) (length state)) refl
-answer-short line state (poke at bytes) size = poke-most (leb (at + length bytes) (length state))
+answer-short line state (load image) is size = omega (arith, number-most (text "load ") (calls.load state image .number))
+answer-short line state (write code) is size = written-most code (writeAnswer code imageRoom) refl
+answer-short line state (record-step n) is size = omega (arith, step-most (text "R ") n (callRecord state n .number))
+answer-short line state (end-step n) is size = omega (arith, step-most (text "E ") n (callEnd state n .number))
+answer-short line state (run budget start) is size = ran-most (runAnswer state budget start)
+answer-short line state free is size = free-most (callFreeEnds state)
+answer-short line state dump is size = dump-most state size (soundBytes state) refl
+answer-short line state (peek at count) is size = peek-most state at count size (leb (at + count) (length state)) refl
+answer-short line state (poke at bytes) is size = poke-most (leb (at + length bytes) (length state))

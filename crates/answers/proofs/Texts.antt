@@ -10,7 +10,7 @@ use Rattle.rules.specs.Printed.{verdictText}
 use Rattle.text.specs.Written.{hexText}
 use Rattle.text.proofs.Hex.{length-text}
 use Rattle.commands.specs.Asked.{lineLimit, firstWord}
-use Rattle.answers.specs.Answers.{numberLine, hexLine, stepText, madeText, countedText, unknownText}
+use Rattle.answers.specs.Answers.{numberLine, hexLine, stepText, madeText, countedText, unknownAnswered}
 
 -- ---- a number, bytes in hex, a verdict, each with the line's end
 
@@ -77,8 +77,8 @@ counted-length count lowest =
 
 -- ---- what is not understood
 
-pub unknown-text : (line : List ℕ) → text "? " ++ (take lineLimit (firstWord line) ++ text "\n") ≡ unknownText line
-unfolding unknownText
+pub unknown-text : (line : List ℕ) → text "? " ++ (take lineLimit (firstWord line) ++ text "\n") ≡ unknownAnswered line
+unfolding unknownAnswered
 unknown-text line = sym (append-assoc (text "? ") (take lineLimit (firstWord line)) (text "\n"))
 
 -- a word with what stands around it
@@ -86,6 +86,6 @@ around : (word : List ℕ) → length (text "? " ++ word ++ text "\n") ≡ lengt
 unfolding text
 around word = omega (arith, length-append (text "? " ++ word) (text "\n"), length-append (text "? ") word)
 
-pub unknown-length : (line : List ℕ) → length (unknownText line) ≡ length (take lineLimit (firstWord line)) + 3
-unfolding unknownText
+pub unknown-length : (line : List ℕ) → length (unknownAnswered line) ≡ length (take lineLimit (firstWord line)) + 3
+unfolding unknownAnswered
 unknown-length line = around (take lineLimit (firstWord line))

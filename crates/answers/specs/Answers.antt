@@ -16,7 +16,7 @@ use Rattle.rules.specs.Text.{text, decimal}
 use Rattle.rules.specs.Printed.{verdictText}
 use Rattle.words.specs.Parts.{putAt}
 use Rattle.text.specs.Written.{hexText}
-use Rattle.commands.specs.Asked.{Asked, unknown, free, dump, load, write, record-step, end-step, run, peek, poke}
+use Rattle.commands.specs.Asked.{Asked, unknown, remark, free, dump, load, write, record-step, end-step, run, peek, poke}
 use Rattle.commands.specs.Asked.{lineLimit, firstWord, when}
 use Rattle.dump.specs.Shown.{stateText}
 
@@ -31,8 +31,8 @@ hexLine bytes = hexText bytes ++ text "\n"
 -- ---- the requests of document 01
 
 -- `load HEX`: the number
-unfoldable pub loadText : (state image : List ℕ) → List ℕ
-loadText state image = numberLine (text "load ") (calls.load state image .number)
+unfoldable pub loadAnswered : (state image : List ℕ) → List ℕ
+loadAnswered state image = numberLine (text "load ") (calls.load state image .number)
 
 -- the room for an image: as many blocks as one has at most
 unfoldable pub imageRoom : List ℕ
@@ -43,18 +43,18 @@ abbrev pub writtenText : (code : List ℕ) → Answer (List ℕ) → List ℕ
 writtenText code (refused n) = numberLine (text "write ") n
 writtenText code (done image) = numberLine (text "write ") 0 ++ hexLine (imageOf code)
 
-unfoldable pub writeText : (code : List ℕ) → List ℕ
-writeText code = writtenText code (writeAnswer code imageRoom)
+unfoldable pub writeAnswered : (code : List ℕ) → List ℕ
+writeAnswered code = writtenText code (writeAnswer code imageRoom)
 
 -- `R n` and `E n`: the same again, and the number
 abbrev pub stepText : (name : List ℕ) (n number : ℕ) → List ℕ
 stepText name n number = name ++ decimal n ++ numberLine (text ": ") number
 
-unfoldable pub recordText : (state : List ℕ) (n : ℕ) → List ℕ
-recordText state n = stepText (text "R ") n (callRecord state n .number)
+unfoldable pub recordAnswered : (state : List ℕ) (n : ℕ) → List ℕ
+recordAnswered state n = stepText (text "R ") n (callRecord state n .number)
 
-unfoldable pub endText : (state : List ℕ) (n : ℕ) → List ℕ
-endText state n = stepText (text "E ") n (callEnd state n .number)
+unfoldable pub endAnswered : (state : List ℕ) (n : ℕ) → List ℕ
+endAnswered state n = stepText (text "E ") n (callEnd state n .number)
 
 -- `run BUDGET START`: 0, the steps made, the next position and the verdict, or the number
 abbrev pub madeText : (steps next : ℕ) → Verdict → List ℕ
@@ -65,8 +65,8 @@ abbrev pub ranText : Answer Ran → List ℕ
 ranText (refused n) = numberLine (text "run: ") n
 ranText (done ran) = madeText (ran .made) (ran .next) (ran .verdict)
 
-unfoldable pub runText : (state : List ℕ) (budget start : ℕ) → List ℕ
-runText state budget start = ranText (runAnswer state budget start)
+unfoldable pub runAnswered : (state : List ℕ) (budget start : ℕ) → List ℕ
+runAnswered state budget start = ranText (runAnswer state budget start)
 
 -- `free`: how many ends are free and the lowest of them, or the number
 abbrev pub countedText : (count lowest : ℕ) → List ℕ
@@ -76,8 +76,8 @@ abbrev pub freeEndsText : Answer FreeEnds → List ℕ
 freeEndsText (refused n) = numberLine (text "free: refused ") n
 freeEndsText (done x) = countedText (x .count) (x .lowest)
 
-unfoldable pub freeText : (state : List ℕ) → List ℕ
-freeText state = freeEndsText (callFreeEnds state)
+unfoldable pub freeAnswered : (state : List ℕ) → List ℕ
+freeAnswered state = freeEndsText (callFreeEnds state)
 
 -- ---- the state memory as it is
 
@@ -86,39 +86,44 @@ abbrev pub shownText : Answer State → List ℕ
 shownText (refused n) = numberLine (text "dump: refused ") n
 shownText (done st) = stateText st
 
-unfoldable pub dumpText : (state : List ℕ) → List ℕ
-dumpText state = shownText (whereSound state (done (view state)))
+unfoldable pub dumpAnswered : (state : List ℕ) → List ℕ
+dumpAnswered state = shownText (whereSound state (done (view state)))
 
 -- `peek AT COUNT`: these bytes in hex, if all of them lie within the memory
-unfoldable pub peekText : (state : List ℕ) (at count : ℕ) → List ℕ
-peekText state at count =
+unfoldable pub peekAnswered : (state : List ℕ) (at count : ℕ) → List ℕ
+peekAnswered state at count =
     when (leb (at + count) (length state)) (hexLine (take count (drop at state))) (text "peek: out of range\n")
 
 -- `poke AT HEX`: whether all of these bytes lie within the memory; if so they are written there
-unfoldable pub pokeText : (state : List ℕ) (at : ℕ) (bytes : List ℕ) → List ℕ
-pokeText state at bytes = when (leb (at + length bytes) (length state)) (text "poke: ok\n") (text "poke: out of range\n")
+unfoldable pub pokeAnswered : (state : List ℕ) (at : ℕ) (bytes : List ℕ) → List ℕ
+pokeAnswered state at bytes = when (leb (at + length bytes) (length state)) (text "poke: ok\n") (text "poke: out of range\n")
 
 unfoldable pub poked : (state : List ℕ) (at : ℕ) (bytes : List ℕ) → List ℕ
 poked state at bytes = when (leb (at + length bytes) (length state)) (putAt state at bytes) state
 
+-- `#`, and anything behind it: the line itself
+abbrev pub remarkAnswered : (line : List ℕ) → List ℕ
+remarkAnswered line = line ++ text "\n"
+
 -- anything else: the line's first word, as far as a line goes
-unfoldable pub unknownText : (line : List ℕ) → List ℕ
-unknownText line = text "? " ++ take lineLimit (firstWord line) ++ text "\n"
+unfoldable pub unknownAnswered : (line : List ℕ) → List ℕ
+unknownAnswered line = text "? " ++ take lineLimit (firstWord line) ++ text "\n"
 
 -- ---- all commands
 
 -- what is answered to a line that asks for this
 abbrev pub answerText : (line state : List ℕ) → Asked → List ℕ
-answerText line state (load image) = loadText state image
-answerText line state (write code) = writeText code
-answerText line state (record-step n) = recordText state n
-answerText line state (end-step n) = endText state n
-answerText line state (run budget start) = runText state budget start
-answerText line state free = freeText state
-answerText line state dump = dumpText state
-answerText line state (peek at count) = peekText state at count
-answerText line state (poke at bytes) = pokeText state at bytes
-answerText line state unknown = unknownText line
+answerText line state (load image) = loadAnswered state image
+answerText line state (write code) = writeAnswered code
+answerText line state (record-step n) = recordAnswered state n
+answerText line state (end-step n) = endAnswered state n
+answerText line state (run budget start) = runAnswered state budget start
+answerText line state free = freeAnswered state
+answerText line state dump = dumpAnswered state
+answerText line state (peek at count) = peekAnswered state at count
+answerText line state (poke at bytes) = pokeAnswered state at bytes
+answerText line state remark = remarkAnswered line
+answerText line state unknown = unknownAnswered line
 
 -- the state memory afterwards
 abbrev pub stateAfter : (state : List ℕ) → Asked → List ℕ
@@ -131,4 +136,5 @@ stateAfter state free = state
 stateAfter state dump = state
 stateAfter state (peek at count) = state
 stateAfter state (poke at bytes) = poked state at bytes
+stateAfter state remark = state
 stateAfter state unknown = state

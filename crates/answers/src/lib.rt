@@ -14,6 +14,9 @@ ghost use Rattle.answers.specs.Sizes.{byteSize, outputSize};
 ghost use Rattle.answers.specs.Answers.{answerText, stateAfter};
 use commands::Command;
 
+// The length of the buffer for an answer.
+pub const OUTPUT_SIZE: usize = 80000;
+
 // The answer to a line: how long it is. The bytes of a hex word go through `bytes`.
 pub fn answer(line: &[u8], state: &mut [u8], bytes: &mut [u8], out: &mut [u8]) -> usize
     requires { ⌜ (length (now state) ≡ stateSize) × (length (now bytes) ≡ byteSize) × (length (now out) ≡ outputSize) ⌝ }
@@ -24,6 +27,7 @@ pub fn answer(line: &[u8], state: &mut [u8], bytes: &mut [u8], out: &mut [u8]) -
 {
     match commands::parse(line, bytes) {
         Command::Unknown => bench::unknown(line, out),
+        Command::Remark => bench::remark(line, out),
         Command::Load(n) => requests::load(&bytes[..n], state, out),
         Command::Write(n) => requests::write(&bytes[..n], out),
         Command::Record(n) => requests::step_record(n, state, out),

@@ -5,27 +5,15 @@ ghost use mathlib.Core.List.{_++_};
 ghost use Prim.Native.Nat.{_+_, _≤_};
 ghost use lib.ListN.{length, take};
 ghost use Rattle.rules.specs.Text.{text as textOf};
-ghost use Rattle.rules.specs.Numbers.{replyNumber};
 ghost use Rattle.rules.specs.Printed.{verdictText};
 ghost use Rattle.text.specs.Written.{Written};
 ghost use Rattle.printed.specs.Meaning.{verdictIn};
 ghost use Rattle.answers.specs.Answers.{numberLine, hexLine};
 use printed::put_verdict;
-use rules::Reply;
 use runner::Verdict;
 use text::put_bytes;
 use text::put_decimal;
 use text::put_hex;
-
-// The number of a reply.
-pub fn number_of(reply: Reply) -> u64
-    ensures { λ r. ⌜ r ≡ replyNumber reply ⌝ }
-{
-    match reply {
-        Reply::Done => 0,
-        Reply::Refused(n) => n as u64,
-    }
-}
 
 // The first n bytes, or all where there are fewer.
 pub fn front(bytes: &[u8], n: usize) -> &[u8]

@@ -9,9 +9,8 @@ ghost use Rattle.rules.specs.Calls.{load as loadOf, callRecord, callEnd, callRu
 ghost use Rattle.rules.specs.Numbers.{replyNumber};
 ghost use Rattle.text.specs.Written.{Written};
 ghost use Rattle.printed.specs.Meaning.{verdictIn};
-ghost use Rattle.answers.specs.Answers.{loadText, writeText, stepText, recordText, endText, madeText, runText};
-ghost use Rattle.answers.specs.Answers.{countedText, freeText};
-use crate::lines::number_of;
+ghost use Rattle.answers.specs.Answers.{loadAnswered, writeAnswered, stepText, recordAnswered, endAnswered, madeText, runAnswered};
+ghost use Rattle.answers.specs.Answers.{countedText, freeAnswered};
 use crate::lines::put_hex_line;
 use crate::lines::put_number_line;
 use crate::lines::put_verdict_line;
@@ -20,6 +19,7 @@ use image::BLOCK_SIZE;
 use image::block_count;
 use machine::FreeEnds;
 use rules::Reply;
+use rules::number_of;
 use runner::Ran;
 use runner::Verdict;
 use text::put_bytes;
@@ -30,12 +30,12 @@ const IMAGE_ROOM: usize = BLOCK_SIZE * BLOCK_LIMIT;
 
 // `load HEX`: the method of an image.
 pub fn load(image: &[u8], state: &mut [u8], out: &mut [u8]) -> usize
-    requires { ⌜ length (loadText (now state) (now image)) ≤ length (now out) ⌝ }
-    ensures says { λ r. ⌜ Written (now (out .entry)) 0 (loadText (now (state .entry)) (now (image .entry))) (now (out .exit)) r ⌝ }
+    requires { ⌜ length (loadAnswered (now state) (now image)) ≤ length (now out) ⌝ }
+    ensures says { λ r. ⌜ Written (now (out .entry)) 0 (loadAnswered (now (state .entry)) (now (image .entry))) (now (out .exit)) r ⌝ }
     ensures leaves { λ _. ⌜ now (state .exit) ≡ loadOf (now (state .entry)) (now (image .entry)) .memory ⌝ }
 {
     let reply = machine::load(state, image);
-    put_number_line(out, 0, b"load ", number_of(reply))
+    put_number_line(out, 0, b"load ", number_of(reply) as u64)
 }
 
 // The bytes of the image of a code of so many bytes.
@@ -48,8 +48,8 @@ fn image_size(code: usize) -> usize
 
 // `write HEX`: the image of a code.
 pub fn write(code: &[u8], out: &mut [u8]) -> usize
-    requires { ⌜ length (writeText (now code)) ≤ length (now out) ⌝ }
-    ensures { λ r. ⌜ Written (now (out .entry)) 0 (writeText (now (code .entry))) (now (out .exit)) r ⌝ }
+    requires { ⌜ length (writeAnswered (now code)) ≤ length (now out) ⌝ }
+    ensures { λ r. ⌜ Written (now (out .entry)) 0 (writeAnswered (now (code .entry))) (now (out .exit)) r ⌝ }
 {
     let mut image = [0u8; IMAGE_ROOM];
     match image::write(code, &mut image) {
@@ -69,13 +69,13 @@ fn put_step(out: &mut [u8], name: &[u8], n: u32, reply: Reply) -> usize
 {
     let number = put_bytes(out, 0, name);
     let behind = put_decimal(out, number, n as u64);
-    put_number_line(out, behind, b": ", number_of(reply))
+    put_number_line(out, behind, b": ", number_of(reply) as u64)
 }
 
 // `R n`: a record is asked to step.
 pub fn step_record(n: u32, state: &mut [u8], out: &mut [u8]) -> usize
-    requires { ⌜ length (recordText (now state) n) ≤ length (now out) ⌝ }
-    ensures says { λ r. ⌜ Written (now (out .entry)) 0 (recordText (now (state .entry)) n) (now (out .exit)) r ⌝ }
+    requires { ⌜ length (recordAnswered (now state) n) ≤ length (now out) ⌝ }
+    ensures says { λ r. ⌜ Written (now (out .entry)) 0 (recordAnswered (now (state .entry)) n) (now (out .exit)) r ⌝ }
     ensures leaves { λ _. ⌜ now (state .exit) ≡ callRecord (now (state .entry)) n .memory ⌝ }
 {
     let reply = machine::ask_record(state, n);
@@ -84,8 +84,8 @@ pub fn step_record(n: u32, state: &mut [u8], out: &mut [u8]) -> usize
 
 // `E n`: an end is asked to step.
 pub fn step_end(n: u32, state: &mut [u8], out: &mut [u8]) -> usize
-    requires { ⌜ length (endText (now state) n) ≤ length (now out) ⌝ }
-    ensures says { λ r. ⌜ Written (now (out .entry)) 0 (endText (now (state .entry)) n) (now (out .exit)) r ⌝ }
+    requires { ⌜ length (endAnswered (now state) n) ≤ length (now out) ⌝ }
+    ensures says { λ r. ⌜ Written (now (out .entry)) 0 (endAnswered (now (state .entry)) n) (now (out .exit)) r ⌝ }
     ensures leaves { λ _. ⌜ now (state .exit) ≡ callEnd (now (state .entry)) n .memory ⌝ }
 {
     let reply = machine::ask_end(state, n);
@@ -106,8 +106,8 @@ fn put_made(out: &mut [u8], steps: u16, next: u8, verdict: Verdict) -> usize
 
 // `run BUDGET START`.
 pub fn run(budget: u16, start: u32, state: &mut [u8], out: &mut [u8]) -> usize
-    requires { ⌜ length (runText (now state) budget start) ≤ length (now out) ⌝ }
-    ensures says { λ r. ⌜ Written (now (out .entry)) 0 (runText (now (state .entry)) budget start) (now (out .exit)) r ⌝ }
+    requires { ⌜ length (runAnswered (now state) budget start) ≤ length (now out) ⌝ }
+    ensures says { λ r. ⌜ Written (now (out .entry)) 0 (runAnswered (now (state .entry)) budget start) (now (out .exit)) r ⌝ }
     ensures leaves { λ _. ⌜ now (state .exit) ≡ callRun (now (state .entry)) budget start .memory ⌝ }
 {
     match runner::run(state, budget, start) {
@@ -132,8 +132,8 @@ fn put_counted(out: &mut [u8], count: u8, lowest: u8) -> usize
 
 // `free`: the free ends.
 pub fn free(state: &[u8], out: &mut [u8]) -> usize
-    requires { ⌜ length (freeText (now state)) ≤ length (now out) ⌝ }
-    ensures { λ r. ⌜ Written (now (out .entry)) 0 (freeText (now (state .entry))) (now (out .exit)) r ⌝ }
+    requires { ⌜ length (freeAnswered (now state)) ≤ length (now out) ⌝ }
+    ensures { λ r. ⌜ Written (now (out .entry)) 0 (freeAnswered (now (state .entry))) (now (out .exit)) r ⌝ }
 {
     match machine::free_ends(state) {
         FreeEnds::Counted { count, lowest } => put_counted(out, count, lowest),

@@ -1,13 +1,14 @@
 -- Laws of tests that a loop makes one by one: over the numbers below n and over a list, one that fails decides, and all that pass decide.
 -- Assumes nothing.
 use mathlib.Core.Path.{_≡_, refl, sym, ap, _∙_}
-use mathlib.Core.Bool.{Bool, true, false}
+use mathlib.Core.Bool.{Bool, true, false, not}
 use mathlib.Core.List.{List, [], _∷_, _++_}
 use Prim.Native.Nat.{ℕ, zero, suc, _+_, _≤_, _<_}
 use native.Mathlib.Nat.{le-of-suc-le-suc}
 use native.Mathlib.Numerals.{add-one}
 use native.Mathlib.Omega.{arith}
 use lib.ListN.{length, getD, take}
+use borrow.Author.Tests.{not-true, not-false}
 use Rattle.rules.specs.EndStep.{onlyIf}
 use Rattle.rules.specs.SoundTest.{all, every, allTrue}
 use Rattle.rules.proofs.TestLaws.{AllTrue, both, right-of, true-is-not-false, every-at}
@@ -54,15 +55,23 @@ module _ (test : ℕ → Bool) where
   unfolding every
   every-none = refl
 
-  pub every-more : (i : ℕ) → every test i ≡ true → test i ≡ true → every test (i + 1) ≡ true
+  every-more : (i : ℕ) → every test i ≡ true → test i ≡ true → every test (i + 1) ≡ true
   unfolding every
   every-more i h t = rw (add-one i) (both t h)
 
   pub reached : (n : ℕ) {i : ℕ} → i ≤ n → n ≤ i → every test i ≡ true → true ≡ every test n
   reached n {i} l k h = let e : i ≡ n = omega arith in sym h ∙ ap (every test) e
 
-  pub every-fails : (n k : ℕ) → k < n → test k ≡ false → every test n ≡ false
+  every-fails : (n k : ℕ) → k < n → test k ≡ false → every test n ≡ false
   every-fails n k l f = fails (every test n) (λ h. true-is-not-false (every-at test n h k l) f)
+
+  -- the turn of k was told b: where that is no, the answer is no, and else one more number passes
+  module _ (k : ℕ) {b : Bool} (told : b ≡ test k) where
+    pub turn-fails : (n : ℕ) → k < n → not b ≡ true → false ≡ every test n
+    turn-fails n h t = sym (every-fails n k h (sym told ∙ not-true b t))
+
+    pub turn-passes : every test k ≡ true → not b ≡ false → every test (k + 1) ≡ true
+    turn-passes before f = every-more k before (sym told ∙ not-false b f)
 
 -- ---- over a list
 

@@ -13,18 +13,18 @@ use records::record_is_canonical;
 use rules::CODE_LIMIT;
 use rules::END_COUNT;
 use rules::RECORD_COUNT;
-use rules::places::COUNTS_AT;
-use rules::places::FREE_AT;
-use rules::places::PARTNERS_AT;
-use rules::places::QUEUE_SIZE;
-use rules::places::QUEUES_AT;
-use rules::places::RECORD_SIZE;
-use rules::places::RECORDS_AT;
+use rules::offsets::COUNTS_AT;
+use rules::offsets::FREE_AT;
+use rules::offsets::PARTNERS_AT;
+use rules::offsets::QUEUE_SIZE;
+use rules::offsets::QUEUES_AT;
+use rules::offsets::RECORD_SIZE;
+use rules::offsets::RECORDS_AT;
 use unused::all_zero;
 use words::get16;
 use words::get64;
 
-pub mod places; // places.rt: where the parts of the state memory stand
+pub mod counts; // counts.rt: a byte that is a count
 mod unused; // unused.rt: bytes not in use, which must all be zero
 mod records; // records.rt: a record's bytes
 mod queues; // queues.rt: an end's bytes

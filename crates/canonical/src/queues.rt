@@ -5,13 +5,13 @@ ghost use lib.ListN.{length, take};
 ghost use Rattle.rules.specs.Limits.{queueDepth};
 ghost use Rattle.rules.specs.Layout.{queueSize, split-cell};
 ghost use Rattle.canonical.specs.Canonical.{lastFits, isDatum, isLast, cellsIn, canonicalCells, canonicalQueue, canonicalEnd};
-use crate::places::wide;
+use crate::counts::wide;
 use crate::unused::all_zero;
 use rules::END_COUNT;
 use rules::QUEUE_DEPTH;
 use rules::RECORD_COUNT;
-use rules::places::CELL_SIZE;
-use rules::places::QUEUE_SIZE;
+use rules::offsets::CELL_SIZE;
+use rules::offsets::QUEUE_SIZE;
 use words::get64;
 
 // A value of 32 bits, or a handle.

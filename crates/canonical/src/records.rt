@@ -4,18 +4,18 @@ ghost use lib.ListN.{length};
 ghost use Rattle.rules.specs.SoundTest.{all};
 ghost use Rattle.rules.specs.Layout.{recordSize};
 ghost use Rattle.canonical.specs.Canonical.{slotFits, canonicalRegisters, canonicalRecord};
-use crate::places::wide;
+use crate::counts::wide;
 use crate::unused::all_zero;
 use rules::END_COUNT;
 use rules::ENVIRONMENT_DEPTH;
 use rules::STACK_DEPTH;
-use rules::places::ENVIRONMENT_COUNT_FROM;
-use rules::places::ENVIRONMENT_FROM;
-use rules::places::RECORD_SIZE;
-use rules::places::SLOTS_FROM;
-use rules::places::STACK_COUNT_FROM;
-use rules::places::STACK_FROM;
-use rules::places::VALUE_SIZE;
+use rules::offsets::ENVIRONMENT_COUNT_FROM;
+use rules::offsets::ENVIRONMENT_FROM;
+use rules::offsets::RECORD_SIZE;
+use rules::offsets::SLOTS_FROM;
+use rules::offsets::STACK_COUNT_FROM;
+use rules::offsets::STACK_FROM;
+use rules::offsets::VALUE_SIZE;
 
 // Each slot is empty or holds an end.
 fn slots_fit(slots: &[u8]) -> bool

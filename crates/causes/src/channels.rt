@@ -54,16 +54,7 @@ pub fn split(held: Registers, c: Slot, a: Slot, b: Slot) -> Reply
     ensures { λ r. ⌜ ((g : Process) → RegistersWithin g → held ≡ registersOf g
         → r ≡ ownReply g (splitOf (slotNumber c) (slotNumber a) (slotNumber b))) ⌝ }
 {
-    if rows::over(c) {
-        return Reply::Refused(WRONG_SLOT);
-    }
-    if rows::over(a) {
-        return Reply::Refused(WRONG_SLOT);
-    }
-    if rows::over(b) {
-        return Reply::Refused(WRONG_SLOT);
-    }
-    if rows::empty(held, c) {
+    if rows::wrong_slots(held, c, a, b) {
         return Reply::Refused(WRONG_SLOT);
     }
     if rows::one_slot(a, b) {
@@ -86,16 +77,7 @@ pub fn fork(held: Registers, c: Slot, a: Slot, first: Branch, b: Slot, second: B
         → r ≡ ownReply g
         (forkOf (slotNumber c) (slotNumber a) (first .set) (first .place) (slotNumber b) (second .set) (second .place))) ⌝ }
 {
-    if rows::over(c) {
-        return Reply::Refused(WRONG_SLOT);
-    }
-    if rows::over(a) {
-        return Reply::Refused(WRONG_SLOT);
-    }
-    if rows::over(b) {
-        return Reply::Refused(WRONG_SLOT);
-    }
-    if rows::empty(held, c) {
+    if rows::wrong_slots(held, c, a, b) {
         return Reply::Refused(WRONG_SLOT);
     }
     if registers::in_set(first.set, a) {

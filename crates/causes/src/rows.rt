@@ -1,6 +1,10 @@
 // The tests of single rows, each under the name that it has in the table of causes of `rules`.
 ghost use mathlib.Core.Path.{_≡_};
+ghost use mathlib.Core.Bool.{false};
+ghost use mathlib.Core.List.{[], _∷_};
+ghost use Prim.Native.Nat.{_<_};
 ghost use lib.Dec.{eqb};
+ghost use Rattle.rules.specs.Limits.{slotCount};
 ghost use Rattle.rules.specs.State.{Registers as Process};
 ghost use Rattle.rules.specs.Slots.{over as overOf, emptied, notTogether};
 ghost use Rattle.rules.specs.Causes.{fewer as fewerOf, stackFull, stackNotEmpty, empty as emptyOf, taken as takenOf, othersHeld};
@@ -8,6 +12,7 @@ ghost use Rattle.rules.specs.Causes.{othersThanBothHeld};
 ghost use Rattle.rules.specs.Sound.{RegistersWithin};
 ghost use Rattle.rules.specs.Numbers.{slotNumber};
 ghost use Rattle.registers.specs.Registers.{registersOf};
+ghost use Rattle.causes.specs.Own.{anyOf};
 use registers::Held;
 use registers::Registers;
 use rules::SLOT_COUNT;
@@ -44,6 +49,24 @@ pub fn empty(held: Registers, c: Slot) -> bool
         Held::Empty => true,
         Held::Holds(_) => false,
     }
+}
+
+// 8, split and fork: c, a or b is over the last slot's number, or c is empty.
+pub fn wrong_slots(held: Registers, c: Slot, a: Slot, b: Slot) -> bool
+    ensures within { λ r. ⌜ (r ≡ false → (slotNumber a < slotCount) × (slotNumber b < slotCount)) ⌝ }
+    ensures is { λ r. ⌜ ((g : Process) → RegistersWithin g → held ≡ registersOf g
+        → r ≡ anyOf (overOf (slotNumber c) ∷ overOf (slotNumber a) ∷ overOf (slotNumber b) ∷ emptyOf (slotNumber c) g ∷ [])) ⌝ }
+{
+    if over(c) {
+        return true;
+    }
+    if over(a) {
+        return true;
+    }
+    if over(b) {
+        return true;
+    }
+    empty(held, c)
 }
 
 // 8, split: a = b.

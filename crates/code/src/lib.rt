@@ -82,11 +82,3 @@ pub fn decode(lengths: &[u8; 256], code: &[u8], place: usize) -> Decoded
     }
     forms::decode_fixed(code, place, first, place + size)
 }
-
-// The same for a caller that decodes once: it asks for nothing, and binds the table itself.
-pub fn decode_once(code: &[u8], place: usize) -> Decoded
-    ensures { λ r. ⌜ meaning (now (code .entry)) place r ≡ decodedByRules (now (code .entry)) place ⌝ }
-{
-    let lengths = length_table();
-    decode(&lengths, code, place)
-}

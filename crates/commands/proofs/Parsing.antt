@@ -1,22 +1,33 @@
--- Laws of the grammar: the parts of a line that the code cuts out, and a hex word in the front of the buffer. Assumes nothing.
+-- Laws of the grammar: a remark, the parts of a line that the code cuts out, and a hex word in the front of the buffer. Assumes nothing.
 use mathlib.Core.Path.{_≡_, refl, ap, _∙_}
-use mathlib.Core.List.{List}
+use mathlib.Core.List.{List, [], _∷_}
 use mathlib.Core.Bool.{Bool, true, false}
 use mathlib.Core.Option.{Option, none, some}
 use Prim.Native.Nat.{ℕ, _+_, _-_, _/_, _≤_, _<_}
+use native.Mathlib.Decide.{decLe}
 use native.Mathlib.Numerals.{add-one}
 use native.Mathlib.Omega.{arith}
 use borrow.Author.Tests.{lt-ltb, le-ltb, le-leb, lt-leb, leb-true}
-use lib.ListN.{length, take, drop, length-drop}
+use lib.ListN.{length, getD, take, drop, length-drop}
 use lib.Seq.{take-at}
-use lib.Dec.{leb, ltb}
+use lib.Dec.{leb, ltb, eqb}
 use Rattle.words.proofs.Parts.{put-front, length-put}
 use Rattle.text.specs.Written.{Written}
 use Rattle.text.specs.Digits.{lengthBefore, valueBehind, allDigits, onlyIf, numberIn, isHex, hexBytes}
 use Rattle.text.proofs.Texts.{part-all}
 use Rattle.text.proofs.Hex.{length-bytes}
-use Rattle.commands.specs.Asked.{Asked, unknown, asked, lineLimit, space, nameIn, withNumber, withBytes}
-use Rattle.commands.specs.Asked.{firstWord, behindWord, withTwo, bareAsked, fullAsked}
+use Rattle.commands.specs.Asked.{Asked, unknown, remark, asked, lineLimit, space, remarkSign, isRemark, nameIn}
+use Rattle.commands.specs.Asked.{withNumber, withBytes, firstWord, behindWord, withTwo, bareAsked, fullAsked}
+
+-- ---- a remark
+
+pub remark-none : (line : List ℕ) → length line ≡ 0 → false ≡ isRemark line
+remark-none [] e = refl
+remark-none (x ∷ line) e = absurd (omega arith)
+
+pub remark-first : (line : List ℕ) → (length line ≡ 0 → ⊥) → eqb (getD line 0 0) remarkSign ≡ isRemark line
+remark-first [] h = absurd (h refl)
+remark-first (x ∷ line) h = refl
 
 -- ---- a hex word
 
@@ -97,20 +108,32 @@ pub line-long : (line : List ℕ) → lineLimit < length line → unknown ≡ as
 unfolding asked
 line-long line h = rw (lt-leb (length line) lineLimit h) refl
 
-pub line-bare : (line : List ℕ) (n : ℕ) → length line ≤ lineLimit → n ≡ lengthBefore space line → n ≡ length line
-    → bareAsked line ≡ asked line
-unfolding asked
-line-bare line n h e l =
-    rw (le-leb (length line) lineLimit h, le-ltb (lengthBefore space line) (length line) (omega arith)) refl
+-- a remark has the length of a line
+pub remark-short : (line : List ℕ) → remark ≡ asked line → length line ≤ lineLimit
+remark-short line e =
+    let long : lineLimit < length line → ⊥ = λ h. let u = line-long line h in let z : _≡_ {A = ℕ} 0 1 = cc in omega arith in
+    elim (decLe (length line) lineLimit) [ yes l ↦ l | no l ↦ absurd (long (omega arith)) ]
 
-pub line-full : (line : List ℕ) (n : ℕ) → length line ≤ lineLimit → n ≡ lengthBefore space line → n ≤ length line
-    → (n ≡ length line → ⊥) → fullAsked (nameIn (take n line)) (take (length line - (n + 1)) (drop (n + 1) line)) ≡ asked line
-unfolding asked firstWord behindWord
-line-full line n h e l s =
-    rw (
-      le-leb (length line) lineLimit h,
-      lt-ltb (lengthBefore space line) (length line) (omega arith),
-      ← e,
-      part-all line (length line) (n + 1) refl,
-      add-one,
-    ) refl
+pub line-remark : (line : List ℕ) → length line ≤ lineLimit → isRemark line ≡ true → remark ≡ asked line
+unfolding asked
+line-remark line h is = rw (le-leb (length line) lineLimit h, is) refl
+
+-- a line that is no remark
+module _ (line : List ℕ) (h : length line ≤ lineLimit) (other : isRemark line ≡ false) where
+  pub line-bare : (n : ℕ) → n ≡ lengthBefore space line → n ≡ length line → bareAsked line ≡ asked line
+  unfolding asked
+  line-bare n e l =
+      rw (le-leb (length line) lineLimit h, other, le-ltb (lengthBefore space line) (length line) (omega arith)) refl
+
+  pub line-full : (n : ℕ) → n ≡ lengthBefore space line → n ≤ length line → (n ≡ length line → ⊥)
+      → fullAsked (nameIn (take n line)) (take (length line - (n + 1)) (drop (n + 1) line)) ≡ asked line
+  unfolding asked firstWord behindWord
+  line-full n e l s =
+      rw (
+        le-leb (length line) lineLimit h,
+        other,
+        lt-ltb (lengthBefore space line) (length line) (omega arith),
+        ← e,
+        part-all line (length line) (n + 1) refl,
+        add-one,
+      ) refl

@@ -1,21 +1,21 @@
--- The console's grammar: what a line asks for. Words are separated by single spaces, the first one is the command's name, and a command
--- takes exactly its words. Assumes nothing.
+-- The console's grammar: what a line asks for. A line that begins with # is a remark. In any other line words are separated by single
+-- spaces, the first one is the command's name, and a command takes exactly its words. Assumes nothing.
 use Prim.Native.Nat.{ℕ, suc}
-use mathlib.Core.List.{List, []}
+use mathlib.Core.List.{List, [], _∷_}
 use mathlib.Core.Bool.{Bool, true, false}
 use mathlib.Core.Option.{Option, none, some}
 use lib.ListN.{length, take, drop}
-use lib.Dec.{leb, ltb}
+use lib.Dec.{leb, ltb, eqb}
 use Rattle.rules.specs.Text.{text}
 use Rattle.rules.specs.Calls.{sameBytes}
 use Rattle.text.specs.Digits.{lengthBefore, numberIn, isHex, hexBytes}
 use Rattle.commands.specs.declared.Name.{Name}
 use Rattle.commands.specs.declared.Name.the-variants.{Load, Write, Record, End, Run, Peek, Poke, Other}
 
--- what is asked for: nothing that is understood, a load of an image, a write of a code, a step of a record or at an end, a run of a
--- budget from a position, the free ends, the state in words, a number of bytes from a place on, or bytes to be put there
+-- what is asked for: nothing that is understood, nothing at all, a load of an image, a write of a code, a step of a record or at an end, a
+-- run of a budget from a position, the free ends, the state in words, a number of bytes from a place on, or bytes to be put there
 pub data Asked : Type 0 where
-  unknown free dump : Asked
+  unknown remark free dump : Asked
   load write : (bytes : List ℕ) → Asked
   record-step end-step : (number : ℕ) → Asked
   run : (budget start : ℕ) → Asked
@@ -35,6 +35,10 @@ budgetLimit = 65535
 
 abbrev pub space : ℕ
 space = 32
+
+-- the sign that a remark begins with: #
+abbrev pub remarkSign : ℕ
+remarkSign = 35
 
 module _ {A : Type 0} where
   -- the first where the test holds, else the second
@@ -76,15 +80,9 @@ withTwo limit words f =
     (withNumber (numberIn limit (firstWord words)) (λ n. f n (behindWord words)))
     unknown
 
--- the second word of a run, of a peek and of a poke
-abbrev pub runAsked : (budget : ℕ) → List ℕ → Asked
-runAsked budget word = withNumber (numberIn numberLimit word) (λ start. run budget start)
-
-abbrev pub peekAsked : (at : ℕ) → List ℕ → Asked
-peekAsked at word = withNumber (numberIn numberLimit word) (λ count. peek at count)
-
-abbrev pub pokeAsked : (at : ℕ) → List ℕ → Asked
-pokeAsked at word = withBytes word (λ bytes. poke at bytes)
+-- two numbers, or it is not understood
+abbrev pub withNumbers : (limit : ℕ) → List ℕ → (ℕ → ℕ → Asked) → Asked
+withNumbers limit words f = withTwo limit words (λ n word. withNumber (numberIn numberLimit word) (f n))
 
 -- a command with no word behind it
 unfoldable pub bareAsked : List ℕ → Asked
@@ -100,16 +98,22 @@ fullAsked Load words = withBytes words load
 fullAsked Write words = withBytes words write
 fullAsked Record words = withNumber (numberIn numberLimit words) record-step
 fullAsked End words = withNumber (numberIn numberLimit words) end-step
-fullAsked Run words = withTwo budgetLimit words runAsked
-fullAsked Peek words = withTwo numberLimit words peekAsked
-fullAsked Poke words = withTwo numberLimit words pokeAsked
+fullAsked Run words = withNumbers budgetLimit words run
+fullAsked Peek words = withNumbers numberLimit words peek
+fullAsked Poke words = withTwo numberLimit words (λ at word. withBytes word (poke at))
 fullAsked Other words = unknown
+
+-- whether a line is for whoever reads the script
+abbrev pub isRemark : List ℕ → Bool
+isRemark [] = false
+isRemark (first ∷ rest) = eqb first remarkSign
 
 -- what a line asks for; one that is too long is not understood
 unfoldable pub asked : List ℕ → Asked
 asked line =
     when (leb (length line) lineLimit)
+    (when (isRemark line) remark
     (when (ltb (lengthBefore space line) (length line))
     (fullAsked (nameIn (firstWord line)) (behindWord line))
-    (bareAsked line))
+    (bareAsked line)))
     unknown

@@ -1,15 +1,14 @@
 // What a line asks the console for. A line is understood exactly as specs/Asked.antt says; the bytes of a hex word go to the front of a
 // lent buffer, and the command says how many they are.
 ghost use mathlib.Core.Path.{_≡_};
-ghost use mathlib.Core.List.{List};
+ghost use mathlib.Core.List.{List, []};
 ghost use Prim.Native.Nat.{ℕ, _/_, _≤_};
-ghost use lib.ListN.{length};
+ghost use lib.ListN.{length, take};
 ghost use Rattle.text.specs.Digits.{numberIn};
-ghost use Rattle.commands.specs.Asked.{asked, lineLimit, numberLimit, nameIn, bareAsked, fullAsked, withNumber, withBytes};
-ghost use Rattle.commands.specs.Asked.{load as Asked·load, write as Asked·write, record-step, end-step};
-ghost use Rattle.commands.specs.Asked.{runAsked, peekAsked, pokeAsked};
+ghost use Rattle.commands.specs.Asked.{asked, lineLimit, numberLimit, isRemark, nameIn, bareAsked, fullAsked};
+ghost use Rattle.commands.specs.Asked.{withNumber, withNumbers, withBytes};
 ghost use Rattle.commands.specs.declared.Name.the-variants as Name;
-ghost use Rattle.commands.specs.Meaning.{meaning, byteCount};
+ghost use Rattle.commands.specs.Meaning.{meaning, byteCount, asks, firstLimit};
 use text::Number;
 use text::is_hex;
 use text::length_before;
@@ -27,9 +26,14 @@ const BUDGET_LIMIT: u32 = 65535;
 
 const SPACE: u8 = 32;
 
+// The sign that a remark begins with.
+const REMARK_SIGN: u8 = b'#';
+
 // A command that is understood, or none.
 pub enum Command {
     Unknown,
+    // a line for whoever reads the script
+    Remark,
     // how many bytes the image has, or the code
     Load(usize),
     Write(usize),
@@ -104,112 +108,62 @@ fn name_in(word: &[u8]) -> Name
     Name::Other
 }
 
-// A load of the image that a word says.
-fn load(word: &[u8], bytes: &mut [u8]) -> Command
-    requires { ⌜ length (now word) / 2 ≤ length (now bytes) ⌝ }
-    ensures is { λ r. ⌜ meaning (now (bytes .exit)) r ≡ withBytes (now (word .entry)) Asked·load ⌝ }
+// The command of a name with its numbers, the last of them the second, and how many bytes its hex word has.
+fn named(name: Name, first: u32, second: u32, n: usize) -> Command
+    requires { ⌜ first ≤ firstLimit name ⌝ }
+    ensures is { λ r. ⌜ ((bytes : List ℕ) → meaning bytes r ≡ asks name first second (take n bytes)) ⌝ }
+    ensures within { λ r. ⌜ byteCount r ≤ n ⌝ }
+{
+    match name {
+        Name::Load => Command::Load(n),
+        Name::Write => Command::Write(n),
+        Name::Record => Command::Record(second),
+        Name::End => Command::End(second),
+        Name::Run => Command::Run(first as u16, second),
+        Name::Peek => Command::Peek(first, second),
+        Name::Poke => Command::Poke(first, n),
+        Name::Other => Command::Unknown,
+    }
+}
+
+// A hex word behind a name, or behind its first number: the bytes go to the front of the buffer.
+fn with_bytes(name: Name, first: u32, word: &[u8], bytes: &mut [u8]) -> Command
+    requires { ⌜ (first ≤ firstLimit name) × (length (now word) / 2 ≤ length (now bytes)) ⌝ }
+    ensures is { λ r. ⌜ meaning (now (bytes .exit)) r ≡ withBytes (now (word .entry)) (asks name first 0) ⌝ }
     ensures within { λ r. ⌜ byteCount r ≤ length (now (bytes .exit)) ⌝ }
 {
     if !is_hex(word) {
         return Command::Unknown;
     }
-    Command::Load(read_hex(bytes, 0, word))
+    named(name, first, 0, read_hex(bytes, 0, word))
 }
 
-// A write of the code that a word says.
-fn write(word: &[u8], bytes: &mut [u8]) -> Command
-    requires { ⌜ length (now word) / 2 ≤ length (now bytes) ⌝ }
-    ensures is { λ r. ⌜ meaning (now (bytes .exit)) r ≡ withBytes (now (word .entry)) Asked·write ⌝ }
-    ensures within { λ r. ⌜ byteCount r ≤ length (now (bytes .exit)) ⌝ }
-{
-    if !is_hex(word) {
-        return Command::Unknown;
-    }
-    Command::Write(read_hex(bytes, 0, word))
-}
-
-// The bytes that a word says, to be put at a place.
-fn poke_at(at: u32, word: &[u8], bytes: &mut [u8]) -> Command
-    requires { ⌜ length (now word) / 2 ≤ length (now bytes) ⌝ }
-    ensures is { λ r. ⌜ meaning (now (bytes .exit)) r ≡ pokeAsked at (now (word .entry)) ⌝ }
-    ensures within { λ r. ⌜ byteCount r ≤ length (now (bytes .exit)) ⌝ }
-{
-    if !is_hex(word) {
-        return Command::Unknown;
-    }
-    Command::Poke(at, read_hex(bytes, 0, word))
-}
-
-// A step of the record that a word says.
-fn record(word: &[u8]) -> Command
-    ensures is { λ r. ⌜ ((bytes : List ℕ) → meaning bytes r ≡ withNumber (numberIn numberLimit (now (word .entry))) record-step) ⌝ }
+// A number behind a name, or behind its first number.
+fn with_number(name: Name, first: u32, word: &[u8]) -> Command
+    requires { ⌜ first ≤ firstLimit name ⌝ }
+    ensures is { λ r. ⌜ ((bytes : List ℕ) → meaning bytes r
+        ≡ withNumber (numberIn numberLimit (now (word .entry))) (λ second. asks name first second [])) ⌝ }
     ensures within { λ r. ⌜ byteCount r ≡ 0 ⌝ }
 {
     match read_number(word, NUMBER_LIMIT) {
-        Number::Is(n) => Command::Record(n),
+        Number::Is(second) => named(name, first, second, 0),
         Number::Bad => Command::Unknown,
     }
 }
 
-// A step at the end that a word says.
-fn end(word: &[u8]) -> Command
-    ensures is { λ r. ⌜ ((bytes : List ℕ) → meaning bytes r ≡ withNumber (numberIn numberLimit (now (word .entry))) end-step) ⌝ }
-    ensures within { λ r. ⌜ byteCount r ≡ 0 ⌝ }
-{
-    match read_number(word, NUMBER_LIMIT) {
-        Number::Is(n) => Command::End(n),
-        Number::Bad => Command::Unknown,
-    }
-}
-
-// A run of a budget from the position that a word says.
-fn run_from(budget: u16, word: &[u8]) -> Command
-    ensures is { λ r. ⌜ ((bytes : List ℕ) → meaning bytes r ≡ runAsked budget (now (word .entry))) ⌝ }
-    ensures within { λ r. ⌜ byteCount r ≡ 0 ⌝ }
-{
-    match read_number(word, NUMBER_LIMIT) {
-        Number::Is(position) => Command::Run(budget, position),
-        Number::Bad => Command::Unknown,
-    }
-}
-
-// As many bytes from a place on as a word says.
-fn peek_at(at: u32, word: &[u8]) -> Command
-    ensures is { λ r. ⌜ ((bytes : List ℕ) → meaning bytes r ≡ peekAsked at (now (word .entry))) ⌝ }
-    ensures within { λ r. ⌜ byteCount r ≡ 0 ⌝ }
-{
-    match read_number(word, NUMBER_LIMIT) {
-        Number::Is(count) => Command::Peek(at, count),
-        Number::Bad => Command::Unknown,
-    }
-}
-
-// A run: the budget, then the position.
-fn run(words: &[u8]) -> Command
-    ensures is { λ r. ⌜ ((bytes : List ℕ) → meaning bytes r ≡ fullAsked Name.Run (now (words .entry))) ⌝ }
+// Two numbers behind a name, the first within a limit.
+fn with_numbers(name: Name, limit: u32, words: &[u8]) -> Command
+    requires { ⌜ limit ≤ firstLimit name ⌝ }
+    ensures is { λ r. ⌜ ((bytes : List ℕ) → meaning bytes r
+        ≡ withNumbers limit (now (words .entry)) (λ first second. asks name first second [])) ⌝ }
     ensures within { λ r. ⌜ byteCount r ≡ 0 ⌝ }
 {
     let n = length_before(words, SPACE);
     if n == words.len() {
         return Command::Unknown;
     }
-    match read_number(&words[..n], BUDGET_LIMIT) {
-        Number::Is(budget) => run_from(budget as u16, &words[n + 1..]),
-        Number::Bad => Command::Unknown,
-    }
-}
-
-// A peek: where, then how many.
-fn peek(words: &[u8]) -> Command
-    ensures is { λ r. ⌜ ((bytes : List ℕ) → meaning bytes r ≡ fullAsked Name.Peek (now (words .entry))) ⌝ }
-    ensures within { λ r. ⌜ byteCount r ≡ 0 ⌝ }
-{
-    let n = length_before(words, SPACE);
-    if n == words.len() {
-        return Command::Unknown;
-    }
-    match read_number(&words[..n], NUMBER_LIMIT) {
-        Number::Is(at) => peek_at(at, &words[n + 1..]),
+    match read_number(&words[..n], limit) {
+        Number::Is(first) => with_number(name, first, &words[n + 1..]),
         Number::Bad => Command::Unknown,
     }
 }
@@ -225,7 +179,7 @@ fn poke(words: &[u8], bytes: &mut [u8]) -> Command
         return Command::Unknown;
     }
     match read_number(&words[..n], NUMBER_LIMIT) {
-        Number::Is(at) => poke_at(at, &words[n + 1..], bytes),
+        Number::Is(at) => with_bytes(Name::Poke, at, &words[n + 1..], bytes),
         Number::Bad => Command::Unknown,
     }
 }
@@ -237,15 +191,25 @@ fn full(name: Name, words: &[u8], bytes: &mut [u8]) -> Command
     ensures within { λ r. ⌜ byteCount r ≤ length (now (bytes .exit)) ⌝ }
 {
     match name {
-        Name::Load => load(words, bytes),
-        Name::Write => write(words, bytes),
-        Name::Record => record(words),
-        Name::End => end(words),
-        Name::Run => run(words),
-        Name::Peek => peek(words),
+        Name::Load => with_bytes(Name::Load, 0, words, bytes),
+        Name::Write => with_bytes(Name::Write, 0, words, bytes),
+        Name::Record => with_number(Name::Record, 0, words),
+        Name::End => with_number(Name::End, 0, words),
+        Name::Run => with_numbers(Name::Run, BUDGET_LIMIT, words),
+        Name::Peek => with_numbers(Name::Peek, NUMBER_LIMIT, words),
         Name::Poke => poke(words, bytes),
         Name::Other => Command::Unknown,
     }
+}
+
+// Whether a line is for whoever reads the script.
+fn is_remark(line: &[u8]) -> bool
+    ensures { λ r. ⌜ r ≡ isRemark (now (line .entry)) ⌝ }
+{
+    if line.len() == 0 {
+        return false;
+    }
+    line[0] == REMARK_SIGN
 }
 
 // What a line asks for.
@@ -256,6 +220,9 @@ pub fn parse(line: &[u8], bytes: &mut [u8]) -> Command
 {
     if LINE_LIMIT < line.len() {
         return Command::Unknown;
+    }
+    if is_remark(line) {
+        return Command::Remark;
     }
     let n = length_before(line, SPACE);
     if n == line.len() {

@@ -6,10 +6,11 @@ ghost use lib.ListN.{length};
 ghost use Rattle.rules.specs.Layout.{stateSize};
 ghost use Rattle.answers.specs.Sizes.{byteSize, outputSize};
 ghost use Rattle.console.specs.Sizes.{inputSize};
+use answers::OUTPUT_SIZE;
 use commands::LINE_LIMIT;
 use libc::STDIN_FILENO;
 use libc::STDOUT_FILENO;
-use rules::places::STATE_SIZE;
+use rules::offsets::STATE_SIZE;
 use text::length_before;
 
 const LINE_END: u8 = 10;
@@ -18,8 +19,6 @@ const LINE_END: u8 = 10;
 const INPUT_SIZE: usize = LINE_LIMIT + 1;
 
 const BYTE_SIZE: usize = LINE_LIMIT / 2;
-
-const OUTPUT_SIZE: usize = 80000;
 
 // What of the input buffer is read and not yet answered, whether it is the rest of a line that was too long, and whether the input is at
 // its end.

@@ -9,6 +9,7 @@ use native.Mathlib.Omega.{arith}
 use lib.ListN.{length, getD, take, drop, length-append, take-append-drop}
 use lib.Seq.{take-all, take-suc, split-at, append-snoc, length-take-le}
 use Rattle.rules.specs.Text.{text}
+use Rattle.words.proofs.Parts.{length-put}
 use Rattle.text.specs.Written.{Written}
 use Rattle.text.proofs.Texts.{written-more, written-as, room-as, room-first, room-rest}
 use Rattle.dump.specs.Shown.{behindCommas, listText, byNumber}
@@ -149,17 +150,42 @@ by-number-parts f xs k d h =
 
 -- ---- lines by number
 
-module _ {A : Type 0} (line : ℕ → A → List ℕ) {out₀ out : List ℕ} {at next : ℕ} (xs : List A) (k : ℕ) (d : A) (inside : k < length xs)
-    (written : Written out₀ at (byNumber line 0 (take k xs)) out next) where
-  -- room for the line that comes
-  pub line-room : at + length (byNumber line 0 xs) ≤ length out₀ → next + length (line k (getD xs k d)) ≤ length out
-  line-room h =
-      let front = byNumber line 0 (take k xs) ++ line k (getD xs k d) in
-      let behind = byNumber line (0 + length (take (k + 1) xs)) (drop (k + 1) xs) in
-      let whole = room-as at (front ++ behind) (byNumber line 0 xs) out₀ (sym (by-number-parts line xs k d inside)) h in
-      room-rest (line k (getD xs k d)) (room-first at front behind out₀ whole) written
+-- the first k of so many lines stand
+pub record LinesTo {A : Type 0} (line : ℕ → A → List ℕ) (count : ℕ) (xs : List A) (out₀ : List ℕ) (at : ℕ) (out : List ℕ) (next k : ℕ)
+    : Type 0 where
+  pub so-many : length xs ≡ count
+  pub below : k ≤ count
+  pub as-long : length out ≡ length out₀
+  pub lines : Written out₀ at (byNumber line 0 (take k xs)) out next
 
-  -- it is put behind the others
-  pub line-more : {out′ : List ℕ} {next′ : ℕ} → Written out next (line k (getD xs k d)) out′ next′
-      → Written out₀ at (byNumber line 0 (take (k + 1) xs)) out′ next′
-  line-more w = written-as (by-number-more line xs k d inside) (written-more written w)
+module _ {A : Type 0} {line : ℕ → A → List ℕ} {count : ℕ} {xs : List A} {out₀ : List ℕ} {at : ℕ} where
+  -- none yet
+  pub no-line : length xs ≡ count → LinesTo line count xs out₀ at out₀ at 0
+  unfolding byNumber
+  no-line e = record { so-many = e; below = omega arith; as-long = refl; lines = record { memory = refl; place = sym (add-zero at) } }
+
+  module _ {out : List ℕ} {next k : ℕ} (stand : LinesTo line count xs out₀ at out next k) where
+    -- room for the line that comes
+    pub line-room : (d : A) → k < count → at + length (byNumber line 0 xs) ≤ length out₀ → next + length (line k (getD xs k d)) ≤ length out
+    line-room d h room =
+        let inside : k < length xs = omega (arith, stand .so-many) in
+        let front = byNumber line 0 (take k xs) ++ line k (getD xs k d) in
+        let behind = byNumber line (0 + length (take (k + 1) xs)) (drop (k + 1) xs) in
+        let whole = room-as at (front ++ behind) (byNumber line 0 xs) out₀ (sym (by-number-parts line xs k d inside)) room in
+        room-rest (line k (getD xs k d)) (room-first at front behind out₀ whole) (stand .lines)
+
+    -- it is put behind the others
+    pub line-more : (d : A) → k < count → {out′ : List ℕ} {next′ : ℕ} → Written out next (line k (getD xs k d)) out′ next′
+        → LinesTo line count xs out₀ at out′ next′ (k + 1)
+    line-more d h w =
+        let inside : k < length xs = omega (arith, stand .so-many) in
+        record {
+          so-many = stand .so-many;
+          below = omega arith;
+          as-long = ap length (w .memory) ∙ length-put out next (line k (getD xs k d)) ∙ stand .as-long;
+          lines = written-as (by-number-more line xs k d inside) (written-more (stand .lines) w);
+        }
+
+    -- all of them
+    pub all-lines : count ≤ k → Written out₀ at (byNumber line 0 xs) out next
+    all-lines h = written-as (ap (byNumber line 0) (take-all k xs (omega (arith, stand .so-many)))) (stand .lines)

@@ -20,6 +20,8 @@ use ends::Head;
 use ends::Item;
 use rules::End;
 use text::put_bytes;
+use text::put_letter;
+use text::put_lettered;
 use text::put_signed;
 
 // A value in a queue.
@@ -27,7 +29,7 @@ fn put_queued_value(out: &mut [u8], at: usize, v: i32) -> usize
     requires { ⌜ at + length (textOf "v" ++ signedDecimal v) ≤ length (now out) ⌝ }
     ensures { λ r. ⌜ Written (now (out .entry)) at (textOf "v" ++ signedDecimal v) (now (out .exit)) r ⌝ }
 {
-    let behind = put_bytes(out, at, b"v");
+    let behind = put_letter(out, at, b'v');
     put_signed(out, behind, v)
 }
 
@@ -37,8 +39,8 @@ fn put_split(out: &mut [u8], at: usize, p: End, q: End) -> usize
     ensures { λ r. ⌜ Written (now (out .entry)) at (textOf "s" ++ decimal (endNumber p) ++ textOf ":" ++ decimal (endNumber q))
         (now (out .exit)) r ⌝ }
 {
-    let first = put_named(out, at, b"s", p.0 as u64);
-    put_named(out, first, b":", q.0 as u64)
+    let first = put_lettered(out, at, b's', p.0 as u64);
+    put_lettered(out, first, b':', q.0 as u64)
 }
 
 // An item of a queue.
@@ -48,10 +50,10 @@ fn put_item(out: &mut [u8], at: usize, item: Item) -> usize
 {
     match item {
         Item::Value(v) => put_queued_value(out, at, v),
-        Item::Handle(n) => put_named(out, at, b"h", n as u64),
+        Item::Handle(n) => put_lettered(out, at, b'h', n as u64),
         Item::Split(p, q) => put_split(out, at, p, q),
-        Item::Close => put_bytes(out, at, b"c"),
-        Item::Wait(r) => put_named(out, at, b"w", r.0 as u64),
+        Item::Close => put_letter(out, at, b'c'),
+        Item::Wait(r) => put_lettered(out, at, b'w', r.0 as u64),
     }
 }
 
@@ -93,7 +95,7 @@ fn put_head(out: &mut [u8], at: usize, e: u8, partner: End) -> usize
     ensures { λ r. ⌜ Written (now (out .entry)) at
         (textOf "E" ++ decimal e ++ textOf " partner " ++ decimal (endNumber partner) ++ textOf " queue ") (now (out .exit)) r ⌝ }
 {
-    let named = put_named(out, at, b"E", e as u64);
+    let named = put_lettered(out, at, b'E', e as u64);
     let paired = put_named(out, named, b" partner ", partner.0 as u64);
     put_bytes(out, paired, b" queue ")
 }
@@ -109,5 +111,5 @@ pub fn put_end(out: &mut [u8], at: usize, m: &[u8], e: u8) -> usize
     }
     let head = put_head(out, at, e, ends::partner(m, End(e)));
     let queue = put_queue(out, head, m, e);
-    put_bytes(out, queue, b"\n")
+    put_letter(out, queue, b'\n')
 }

@@ -18,6 +18,7 @@ use rules::END_COUNT;
 use rules::RECORD_COUNT;
 use text::put_bytes;
 use text::put_hex;
+use text::put_letter;
 
 // The bytes of a code in hex, `-` for none.
 fn put_bytes_of(out: &mut [u8], at: usize, code: &[u8]) -> usize
@@ -25,7 +26,7 @@ fn put_bytes_of(out: &mut [u8], at: usize, code: &[u8]) -> usize
     ensures { λ r. ⌜ Written (now (out .entry)) at (codeText (now (code .entry))) (now (out .exit)) r ⌝ }
 {
     if code.len() == 0 {
-        return put_bytes(out, at, b"-");
+        return put_letter(out, at, b'-');
     }
     put_hex(out, at, code)
 }
@@ -39,7 +40,7 @@ fn put_code(out: &mut [u8], at: usize, m: &[u8]) -> usize
 {
     let named = put_bytes(out, at, b"code ");
     let shown = put_bytes_of(out, named, stepping::code(m));
-    put_bytes(out, shown, b"\n")
+    put_letter(out, shown, b'\n')
 }
 
 // The lines of the records.

@@ -12,6 +12,8 @@ use rules::SLOT_COUNT;
 use rules::STACK_DEPTH;
 use text::put_bytes;
 use text::put_decimal;
+use text::put_letter;
+use text::put_lettered;
 use text::put_signed;
 
 // A word and a number.
@@ -31,7 +33,7 @@ pub fn put_comma(out: &mut [u8], at: usize, shown: usize) -> usize
     if shown == 0 {
         return at;
     }
-    put_bytes(out, at, b",")
+    put_letter(out, at, b',')
 }
 
 // What ends a list of so many things: `-` for none.
@@ -40,7 +42,7 @@ pub fn put_dash(out: &mut [u8], at: usize, shown: usize) -> usize
     ensures { λ r. ⌜ Written (now (out .entry)) at (dashFor shown) (now (out .exit)) r ⌝ }
 {
     if shown == 0 {
-        return put_bytes(out, at, b"-");
+        return put_letter(out, at, b'-');
     }
     at
 }
@@ -76,7 +78,7 @@ fn put_slot(out: &mut [u8], at: usize, shown: usize, c: usize, e: u8) -> usize
 {
     let behind = put_comma(out, at, shown);
     let parted = put_decimal(out, behind, c as u64);
-    put_named(out, parted, b":", e as u64)
+    put_lettered(out, parted, b':', e as u64)
 }
 
 // The slots that hold an end: in its byte an end's number and one, 0 for an empty slot.

@@ -11,7 +11,6 @@ ghost use Rattle.keeping.specs.Demand3.{SoundMemory};
 ghost use Rattle.text.specs.Written.{Written};
 ghost use Rattle.dump.specs.Shown.{valuesText, registersText, recordText};
 ghost use Rattle.dump.specs.Pieces.{processIn};
-use crate::lists::put_named;
 use crate::lists::put_slots;
 use crate::lists::put_values;
 use registers::Registers;
@@ -20,6 +19,8 @@ use rules::Record;
 use rules::STACK_DEPTH;
 use text::put_bytes;
 use text::put_decimal;
+use text::put_letter;
+use text::put_lettered;
 
 // A word, and the first `count` values.
 fn put_named_values(
@@ -51,7 +52,7 @@ fn put_registers(out: &mut [u8], at: usize, g: Registers) -> usize
     let both = put_named_values(out, stacked, b" env ", environment, g.environment_count);
     let named = put_bytes(out, both, b" slots ");
     let held = put_slots(out, named, slots);
-    put_bytes(out, held, b"\n")
+    put_letter(out, held, b'\n')
 }
 
 // The record's number, what it does, and what it has.
@@ -61,7 +62,7 @@ fn put_line(out: &mut [u8], at: usize, r: u8, status: &[u8], g: Registers) -> us
     ensures { λ next. ⌜ Written (now (out .entry)) at (textOf "R" ++ decimal r ++ now (status .entry) ++ registersText (processIn g))
         (now (out .exit)) next ⌝ }
 {
-    let numbered = put_named(out, at, b"R", r as u64);
+    let numbered = put_lettered(out, at, b'R', r as u64);
     let told = put_bytes(out, numbered, status);
     put_registers(out, told, g)
 }

@@ -18,8 +18,8 @@ ghost use Rattle.ends.specs.Ends.{EndFits};
 use crate::item::Item;
 use crate::item::cell_of;
 use crate::reading::free_word;
+use crate::reading::queued;
 use crate::section::get_cells;
-use crate::section::get_count;
 use crate::section::put_cell;
 use crate::section::put_cells;
 use crate::section::put_count;
@@ -35,7 +35,7 @@ pub fn append(m: &mut [u8], end: End, item: Item)
     ensures { λ _. ⌜ ((st : State) → Sized st → now (m .entry) ≡ layout st → isFreeEnd (endAt st (endNumber end)) ≡ false
         → lastOf (endAt st (endNumber end)) ≡ none → now (m .exit) ≡ layout (append st (endNumber end) (itemOf item))) ⌝ }
 {
-    let count = get_count(m, end);
+    let count = queued(m, end);
     put_cell(m, end, count, cell_of(item));
     put_count(m, end, count + 1);
 }
@@ -46,7 +46,7 @@ pub fn take_head(m: &mut [u8], end: End)
     ensures { λ _. ⌜ ((st : State) → Sized st → now (m .entry) ≡ layout st → EndFits (endAt st (endNumber end))
         → now (m .exit) ≡ layout (setEnd st (endNumber end) (behindHead (endAt st (endNumber end))))) ⌝ }
 {
-    let count = get_count(m, end);
+    let count = queued(m, end);
     if count == 0 {
         return;
     }

@@ -14,20 +14,22 @@ ghost use Rattle.ends.specs.Ends.{EndFits, itemAt};
 use crate::item::Head;
 use crate::item::item_in;
 use crate::section::get_cell;
-use crate::section::get_count;
 use crate::section::get_eight_counts;
-use crate::section::get_partner;
-use crate::section::get_word;
 use crate::word::names;
 use rules::END_COUNT;
 use rules::End;
+use rules::offsets::COUNTS_AT;
+use rules::offsets::FREE_AT;
+use rules::offsets::PARTNERS_AT;
+use words::get8;
+use words::get64;
 
 // The word of free ends.
 pub fn free_word(m: &[u8]) -> u64
     requires { ⌜ length (now m) ≡ stateSize ⌝ }
     ensures { λ r. ⌜ ((st : State) → Sized st → now (m .entry) ≡ layout st → r ≡ freeWord (st .ends)) ⌝ }
 {
-    get_word(m)
+    get64(m, FREE_AT)
 }
 
 pub fn is_free(m: &[u8], end: End) -> bool
@@ -43,7 +45,7 @@ pub fn partner(m: &[u8], end: End) -> End
     ensures { λ r. ⌜ ((st : State) → Sized st → now (m .entry) ≡ layout st
         → endNumber r ≡ endOr 0 (partnerOf (endAt st (endNumber end)))) ⌝ }
 {
-    End(get_partner(m, end))
+    End(get8(m, PARTNERS_AT + end.0 as usize))
 }
 
 // How many items are queued.
@@ -52,7 +54,7 @@ pub fn queued(m: &[u8], end: End) -> u8
     ensures { λ r. ⌜ r ≡ countIn (now (m .entry)) (endNumber end) ⌝ }
     ensures { λ r. ⌜ ((st : State) → Sized st → now (m .entry) ≡ layout st → r ≡ queueLength (endAt st (endNumber end))) ⌝ }
 {
-    get_count(m, end)
+    get8(m, COUNTS_AT + end.0 as usize)
 }
 
 pub fn head(m: &[u8], end: End) -> Head
@@ -84,7 +86,7 @@ pub fn empty_from(m: &[u8], end: End) -> u8
             return 8;
         }
     }
-    if get_count(m, end) == 0 {
+    if queued(m, end) == 0 {
         return 1;
     }
     0

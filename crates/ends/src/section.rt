@@ -1,21 +1,20 @@
-// The word of free ends, and the partner, the queue count and the queue cells of one end: read and written where they stand in the state
-// memory. Each write leaves all other bytes as they were.
+// The word of free ends, and the partner, the queue count and the queue cells of one end: written where they stand in the state memory,
+// and cells and counts read. Each write leaves all other bytes as they were.
 ghost use mathlib.Core.Path.{_≡_};
 ghost use Prim.Native.Nat.{_+_, _≤_, _<_};
 ghost use lib.ListN.{length};
 ghost use Rattle.rules.specs.Limits.{endCount, queueDepth};
 ghost use Rattle.rules.specs.Numbers.{endNumber};
 ghost use Rattle.rules.specs.Layout.{stateSize};
-ghost use Rattle.ends.specs.Sections.{wordIn, withWord, partnerByteIn, withPartnerByte, countIn, eightCountsIn, withCount};
+ghost use Rattle.ends.specs.Sections.{withWord, withPartnerByte, eightCountsIn, withCount};
 ghost use Rattle.ends.specs.Sections.{cellAt, cellIn, withCell, cellsIn, withCells};
 use rules::End;
 use rules::QUEUE_DEPTH;
-use rules::places::CELL_SIZE;
-use rules::places::COUNTS_AT;
-use rules::places::FREE_AT;
-use rules::places::PARTNERS_AT;
-use rules::places::QUEUES_AT;
-use words::get8;
+use rules::offsets::CELL_SIZE;
+use rules::offsets::COUNTS_AT;
+use rules::offsets::FREE_AT;
+use rules::offsets::PARTNERS_AT;
+use rules::offsets::QUEUES_AT;
 use words::get64;
 use words::put8;
 use words::put64;
@@ -26,27 +25,6 @@ fn cell_at(end: End, index: u8) -> usize
     ensures { λ r. ⌜ r ≡ cellAt (endNumber end) index ⌝ }
 {
     QUEUES_AT + CELL_SIZE * (QUEUE_DEPTH * (end.0 as usize) + index as usize)
-}
-
-pub fn get_word(m: &[u8]) -> u64
-    requires { ⌜ length (now m) ≡ stateSize ⌝ }
-    ensures { λ r. ⌜ r ≡ wordIn (now (m .entry)) ⌝ }
-{
-    get64(m, FREE_AT)
-}
-
-pub fn get_partner(m: &[u8], end: End) -> u8
-    requires { ⌜ (length (now m) ≡ stateSize) × (endNumber end < endCount) ⌝ }
-    ensures { λ r. ⌜ r ≡ partnerByteIn (now (m .entry)) (endNumber end) ⌝ }
-{
-    get8(m, PARTNERS_AT + end.0 as usize)
-}
-
-pub fn get_count(m: &[u8], end: End) -> u8
-    requires { ⌜ (length (now m) ≡ stateSize) × (endNumber end < endCount) ⌝ }
-    ensures { λ r. ⌜ r ≡ countIn (now (m .entry)) (endNumber end) ⌝ }
-{
-    get8(m, COUNTS_AT + end.0 as usize)
 }
 
 // The counts of an end and of the seven after it.

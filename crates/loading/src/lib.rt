@@ -14,8 +14,8 @@ ghost use Rattle.rules.specs.Promise.{Promise};
 use image::Found;
 use rules::Reply;
 use rules::STATE_LENGTH;
-use rules::places::CODE_AT;
-use rules::places::STATE_SIZE;
+use rules::offsets::CODE_AT;
+use rules::offsets::STATE_SIZE;
 
 // The start state with the code of an image that reads.
 fn install(state: &mut [u8], image: &[u8], length: usize)

@@ -11,7 +11,7 @@ pub use loading::load;
 use rules::Reply;
 use rules::STATE_LENGTH;
 use rules::UNSOUND;
-use rules::places::STATE_SIZE;
+use rules::offsets::STATE_SIZE;
 
 // How many ends are free, and the lowest of them (64 with none free), or one of document 01's numbers.
 pub enum FreeEnds {

@@ -1,15 +1,22 @@
 -- The cases of two heads: what each pair of items makes, in every state. Assumes nothing.
 use mathlib.Core.Path.{_≡_, refl, ap}
 use mathlib.Core.Option.{none, some}
-use mathlib.Core.List.{[], _∷_}
+use mathlib.Core.List.{List, [], _∷_}
 use Prim.Native.Nat.{ℕ}
 use native.Mathlib.Omega.{arith}
+use denote.Enum.Declared.{tagOf}
+use types.Run.{OneOf, miss}
+use Rattle.rules.specs.State.{Datum as DatumOfRules}
 use Rattle.rules.specs.State.{State, Last, split-item, close-item, wait-item, Item, datum, last, EndState, free-end, used}
 use Rattle.rules.specs.State.{endAt, headOf, lastOf, dataOf}
 use Rattle.rules.specs.EndStep.{mismatch, meetHeads}
 use Rattle.rules.specs.Numbers.{endNumber, recordNumber}
 use Rattle.rules.specs.declared.End.{End}
 use Rattle.rules.specs.declared.Record.{Record}
+use Rattle.ends.specs.declared.item.Item.{Item as ItemOfCode}
+use Rattle.ends.specs.declared.item.Item.the-variants.{Value, Handle, Split, Close, Wait}
+use Rattle.ends.specs.Items.{itemOf}
+use Rattle.ends.proofs.item.Item.{the-type}
 use Rattle.meetings.specs.declared.heads.Datum.{Datum}
 use Rattle.meetings.specs.declared.heads.Meeting.the-variants.{Mismatch, Delivers, Divides, Closes}
 use Rattle.meetings.specs.Heads.{datumOf, Makes}
@@ -31,6 +38,36 @@ last-is (used m (d ∷ ds) k) h = absurd (let z : _≡_ {A = ℕ} 0 1 = cc in om
 
 pub no-match : {e f : ℕ} {x y : Item} → ((st : State) → meetHeads st e f (some x) (some y) ≡ mismatch) → Makes e f x y Mismatch
 no-match q st h k = record { meets = q st; heads-are = tt }
+
+-- the tags of all items but a wait, and of all but a close
+abbrev pub noWait : List ℕ
+noWait = 0 ∷ 1 ∷ 2 ∷ 3 ∷ []
+
+abbrev pub noClose : List ℕ
+noClose = 0 ∷ 1 ∷ 2 ∷ 4 ∷ []
+
+module _ {e f : ℕ} where
+  -- a datum and a split match nothing but a wait, a close nothing but a close
+  pub datum-unmet : {d : DatumOfRules} (y : ItemOfCode) → OneOf noWait (tagOf the-type y) → Makes e f (datum d) (itemOf y) Mismatch
+  datum-unmet (Value v) h = no-match (λ st. refl)
+  datum-unmet (Handle n) h = no-match (λ st. refl)
+  datum-unmet (Split p q) h = no-match (λ st. refl)
+  datum-unmet Close h = no-match (λ st. refl)
+  datum-unmet (Wait r) h = absurd (miss noWait 4 tt h)
+
+  pub split-unmet : {p q : ℕ} (y : ItemOfCode) → OneOf noWait (tagOf the-type y) → Makes e f (last (split-item p q)) (itemOf y) Mismatch
+  split-unmet (Value v) h = no-match (λ st. refl)
+  split-unmet (Handle n) h = no-match (λ st. refl)
+  split-unmet (Split p q) h = no-match (λ st. refl)
+  split-unmet Close h = no-match (λ st. refl)
+  split-unmet (Wait r) h = absurd (miss noWait 4 tt h)
+
+  pub close-unmet : (y : ItemOfCode) → OneOf noClose (tagOf the-type y) → Makes e f (last close-item) (itemOf y) Mismatch
+  close-unmet (Value v) h = no-match (λ st. refl)
+  close-unmet (Handle n) h = no-match (λ st. refl)
+  close-unmet (Split p q) h = no-match (λ st. refl)
+  close-unmet Close h = absurd (miss noClose 3 tt h)
+  close-unmet (Wait r) h = no-match (λ st. refl)
 
 module _ (e f : End) where
   pub datum-then-wait : (d : Datum) (r : Record)

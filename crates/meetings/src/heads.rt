@@ -37,17 +37,14 @@ pub enum Meeting {
 fn datum_meets(e: End, f: End, datum: Datum, y: Item) -> Meeting
     ensures { λ answer. ⌜ Makes (endNumber e) (endNumber f) (datumItem (datumOf datum)) (itemOf y) answer ⌝ }
 {
-    match y {
-        Item::Value(_) => Meeting::Mismatch,
-        Item::Handle(_) => Meeting::Mismatch,
-        Item::Split(_, _) => Meeting::Mismatch,
-        Item::Close => Meeting::Mismatch,
-        Item::Wait(r) => Meeting::Delivers {
-            from: e,
-            to: f,
-            datum,
-            record: r,
-        },
+    let Item::Wait(r) = y else {
+        return Meeting::Mismatch;
+    };
+    Meeting::Delivers {
+        from: e,
+        to: f,
+        datum,
+        record: r,
     }
 }
 
@@ -55,16 +52,13 @@ fn datum_meets(e: End, f: End, datum: Datum, y: Item) -> Meeting
 fn split_meets(e: End, f: End, first: End, second: End, y: Item) -> Meeting
     ensures { λ answer. ⌜ Makes (endNumber e) (endNumber f) (last (split-item (endNumber first) (endNumber second))) (itemOf y) answer ⌝ }
 {
-    match y {
-        Item::Value(_) => Meeting::Mismatch,
-        Item::Handle(_) => Meeting::Mismatch,
-        Item::Split(_, _) => Meeting::Mismatch,
-        Item::Close => Meeting::Mismatch,
-        Item::Wait(r) => Meeting::Divides {
-            first,
-            second,
-            record: r,
-        },
+    let Item::Wait(r) = y else {
+        return Meeting::Mismatch;
+    };
+    Meeting::Divides {
+        first,
+        second,
+        record: r,
     }
 }
 
@@ -72,13 +66,10 @@ fn split_meets(e: End, f: End, first: End, second: End, y: Item) -> Meeting
 fn close_meets(e: End, f: End, y: Item) -> Meeting
     ensures { λ answer. ⌜ Makes (endNumber e) (endNumber f) (last close-item) (itemOf y) answer ⌝ }
 {
-    match y {
-        Item::Value(_) => Meeting::Mismatch,
-        Item::Handle(_) => Meeting::Mismatch,
-        Item::Split(_, _) => Meeting::Mismatch,
-        Item::Close => Meeting::Closes,
-        Item::Wait(_) => Meeting::Mismatch,
+    if let Item::Close = y {
+        return Meeting::Closes;
     }
+    Meeting::Mismatch
 }
 
 // The wait of a record at the head of e, an item at the head of f.

@@ -10,11 +10,11 @@ ghost use Rattle.rules.specs.State.{start};
 ghost use Rattle.rules.specs.Layout.{stateSize, cellSize, queuesAt, layout, view};
 ghost use Rattle.words.specs.Parts.{putAt};
 ghost use Rattle.memory.specs.Sections.{cellCount};
-use rules::places::CELL_SIZE;
-use rules::places::CODE_AT;
-use rules::places::FREE_AT;
-use rules::places::QUEUES_AT;
-use rules::places::RECORDS_AT;
+use rules::offsets::CELL_SIZE;
+use rules::offsets::CODE_AT;
+use rules::offsets::FREE_AT;
+use rules::offsets::QUEUES_AT;
+use rules::offsets::RECORDS_AT;
 
 // Cells of all queues, 8 for each end.
 const CELL_COUNT: usize = 512;

@@ -1,19 +1,21 @@
 -- The cases of the instructions on numbers, over plain variables: which test leads to which answer. Assumes nothing.
-use mathlib.Core.Path.{_≡_}
-use mathlib.Core.Bool.{true, false}
+use mathlib.Core.Path.{_≡_, refl, _∙_}
+use mathlib.Core.Bool.{Bool, true, false}
 use mathlib.Core.List.{_∷_}
 use Prim.Native.Nat.{ℕ}
 use lib.ListN.{getD, drop}
-use lib.IntN.{pos, _+ℤ_, _*ℤ_}
+use lib.IntN.{pos}
 use lib.Signed.{leZ}
 use Rattle.rules.specs.State.{State, Value, Registers, registers, running, setRecord}
 use Rattle.rules.specs.Refusal.{refused, done, unless}
-use Rattle.rules.specs.Instruction.{cst, access, store, add, mul, leq}
+use Rattle.rules.specs.Instruction.{cst, access, store}
 use Rattle.rules.specs.Causes.{top, below, fewer, outside, stackFull, environmentFull, noEnvironmentPlace, ownCauses, sharedCauses}
 use Rattle.rules.specs.RecordStep.{after, yesOrNo}
 use Rattle.rules.specs.Ask.{answerTo}
 use Rattle.registers.specs.Registers.{combined, movedTo}
-use Rattle.numbers.specs.Checked.{checked}
+use Rattle.numbers.specs.declared.arithmetic.Made.{Made}
+use Rattle.numbers.specs.declared.arithmetic.Made.the-variants.{Sum, Product, Order}
+use Rattle.numbers.specs.Checked.{madeOf, makes, checked}
 
 module _ (st : State) (r next : ℕ) (g : Registers) where
   pub cst-full : (v : Value) → stackFull g ≡ true → answerTo st r next g (cst v) ≡ refused 6
@@ -63,27 +65,21 @@ module _ (st : State) (r next : ℕ) (g : Registers) where
   unfolding unless
   inside-done v f = rw f
 
-  pub add-few : fewer 2 g ≡ true → answerTo st r next g add ≡ refused 5
+  pub made-few : (made : Made) → fewer 2 g ≡ true → answerTo st r next g (makes made) ≡ refused 5
   unfolding answerTo ownCauses sharedCauses unless
-  add-few t = rw t
+  made-few Sum t = rw t
+  made-few Product t = rw t
+  made-few Order t = rw t
 
-  pub add-checked : fewer 2 g ≡ false → checked st r next g (top g +ℤ below g) ≡ answerTo st r next g add
+  pub made-checked : (made : Made) → fewer 2 g ≡ false
+      → checked st r next g (madeOf made (top g) (below g)) ≡ answerTo st r next g (makes made)
   unfolding answerTo ownCauses sharedCauses unless after
-  add-checked f = rw f
-
-  pub mul-few : fewer 2 g ≡ true → answerTo st r next g mul ≡ refused 5
-  unfolding answerTo ownCauses sharedCauses unless
-  mul-few t = rw t
-
-  pub mul-checked : fewer 2 g ≡ false → checked st r next g (top g *ℤ below g) ≡ answerTo st r next g mul
-  unfolding answerTo ownCauses sharedCauses unless after
-  mul-checked f = rw f
-
-  pub leq-few : fewer 2 g ≡ true → answerTo st r next g leq ≡ refused 5
-  unfolding answerTo ownCauses sharedCauses unless
-  leq-few t = rw t
-
-  pub leq-done : fewer 2 g ≡ false
-      → answerTo st r next g leq ≡ done (setRecord st r (running (movedTo (combined g (yesOrNo (leZ (top g) (below g)))) next)))
-  unfolding answerTo ownCauses sharedCauses unless after
-  leq-done f = rw f
+  made-checked Sum f = rw f
+  made-checked Product f = rw f
+  made-checked Order f =
+      inside-done (yesOrNo (leZ (top g) (below g))) (small (leZ (top g) (below g))) ∙ (rw f)
+    where
+      -- 0 and 1 are no values outside 32 bits
+      small : (b : Bool) → outside (yesOrNo b) ≡ false
+      small true = refl
+      small false = refl

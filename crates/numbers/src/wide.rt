@@ -36,7 +36,7 @@ pub fn narrow(v: i64) -> i32
 }
 
 // 1 if x is at most y, else 0.
-pub fn at_most(x: i32, y: i32) -> i32
+pub fn at_most(x: i32, y: i32) -> i64
     ensures { λ r. ⌜ r ≡ yesOrNo (leZ x y) ⌝ }
 {
     if x <= y {

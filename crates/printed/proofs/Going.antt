@@ -1,88 +1,74 @@
--- One step forward, over plain variables: the search is the runner's, and what was read at the position that steps is what the step
--- prints. Assumes nothing.
+-- One step forward, over plain variables: the step is the runner's, and what was read before it at the position that steps is what the
+-- step prints. Assumes nothing.
 use mathlib.Core.Path.{_≡_, refl, sym, ap, _∙_, subst}
 use mathlib.Core.Option.{Option, none, some}
 use mathlib.Core.List.{List}
-use Prim.Native.Nat.{ℕ, suc, _+_, _-_, _≤_, _<_}
+use Prim.Native.Nat.{ℕ, _+_, _%_, _<_}
 use native.Mathlib.Omega.{arith}
 use Rattle.rules.specs.Limits.{positionCount}
 use Rattle.rules.specs.State.{State}
-use Rattle.rules.specs.Run.{Step, nextPosition, firstOf, nextStep}
+use Rattle.rules.specs.Run.{Step, nextStep}
 use Rattle.rules.specs.Printed as rules
 use Rattle.rules.specs.Printed.{printedAt}
 use Rattle.rules.specs.Layout.{view}
 use Rattle.rules.specs.Promise.{Promise}
-use Rattle.rules.specs.declared.Reply.{Reply}
-use Rattle.rules.specs.declared.Reply.the-variants.{Done, Refused}
-use Rattle.keeping.proofs.RunLaws.{next-found}
-use Rattle.asking.specs.Stepped.{PositionStepped}
+use Rattle.keeping.proofs.RunLaws.{ahead-is, next-found}
+use Rattle.runner.specs.declared.searching.Stepped.{Stepped as Place}
 use Rattle.runner.specs.declared.searching.Stepped.the-variants as place
 use Rattle.runner.specs.Runs.{steppedBy, memoryBy}
-use Rattle.runner.proofs.Places.{isSomewhere, positionOf}
+use Rattle.runner.proofs.Somewhere.{isSomewhere, positionOf}
 use Rattle.printed.specs.declared.kinds.Printed.{Printed}
 use Rattle.printed.specs.declared.forward.Forward.the-variants.{Nowhere, Stepped}
 use Rattle.printed.specs.Meaning.{PrintsAt, printedOf}
 use Rattle.printed.specs.Forwarded.{Forwarded, stepPrinted}
-use Rattle.printed.proofs.Asking.{found-here, not-here, none-found}
 use Rattle.printed.proofs.Telling.{done-prints, told-position}
 
-pub search-all : (st : State) (p : ℕ) → nextStep st p ≡ firstOf (positionCount - 0) st p
-unfolding nextStep
-search-all st p = refl
+-- what the runner promises of the step from a position, in memory m
+abbrev Made : (m : List ℕ) (position : ℕ) → Place → (left : List ℕ) → Type 0
+Made m position where′ left =
+    Promise (steppedBy (nextStep (view m) position)) (memoryBy m (nextStep (view m) position)) where′ left
 
--- the search has come from `position` to p, with the memory as it was
-module _ (m₀ : List ℕ) (position : ℕ) (m : List ℕ) (p tried : ℕ) (left-to-try : tried < positionCount) (same : m ≡ m₀)
-    (so-far : nextStep (view m₀) position ≡ firstOf (positionCount - tried) (view m₀) p) {reply : Reply} {left : List ℕ}
-    (asked : PositionStepped m p reply left) where
-  asked₀ : PositionStepped m₀ p reply left
-  asked₀ = subst (λ (x : List ℕ). PositionStepped x p reply left) same asked
+-- where it is made is known
+pub told : {is x y : Place} {after left : List ℕ} → Promise is after x left → x ≡ y → Promise is after y left
+told made e = record { answer-is = sym e ∙ made .answer-is; memory-is = made .memory-is }
 
-  -- p steps: it is the step that is made, and what was read there is what it prints
-  pub turn-done : (shown : Printed) → PrintsAt (view m) p shown → reply ≡ Done
-      → Forwarded m₀ (nextStep (view m₀) position) (Stepped shown) left
-  turn-done shown prints is =
-      go (nextStep (view m₀) position) refl
-      (found-here m₀ position p tried left-to-try so-far asked₀ is)
-      (subst (λ (x : List ℕ). PrintsAt (view x) p shown) same prints)
+module _ (m : List ℕ) (position : ℕ) {p : ℕ} {left : List ℕ} (made : Made m position (place.At p) left) where
+  pub position-below : position < positionCount → p < positionCount
+  position-below h = go (nextStep (view m) position) refl
     where
-      go : (x : Option Step) → nextStep (view m₀) position ≡ x
-          → Promise (steppedBy (nextStep (view m₀) position)) (memoryBy m₀ (nextStep (view m₀) position)) (place.At p) left
-          → PrintsAt (view m₀) p shown → Forwarded m₀ (nextStep (view m₀) position) (Stepped shown) left
-      go none q found read = absurd (omega (arith, ap isSomewhere (found .answer-is ∙ ap steppedBy q)))
-      go (some s) q found read =
-          let first = next-found (view m₀) position s q in
-          let here : p ≡ s .position = ap positionOf (found .answer-is ∙ ap steppedBy q) in
-          let told = done-prints (view m₀) (s .position) (s .reached) (first .is-step) in
-          let there = subst (λ (k : ℕ). printedAt (view m₀) k ≡ some (told .what)) (sym here) (told .prints) in
-          let what : printedOf shown ≡ told .what = read (told .what) there in
+      go : (x : Option Step) → nextStep (view m) position ≡ x → p < positionCount
+      go none q = absurd (omega (arith, ap isSomewhere (made .answer-is ∙ ap steppedBy q)))
+      go (some s) q =
+          let first = next-found (view m) position s q in
+          let around = ap positionOf (made .answer-is ∙ ap steppedBy q) ∙ first .position-is ∙ ahead-is (first .distance) position h in
+          let below : (position + first .distance) % positionCount < positionCount = omega arith in
+          omega (arith, around, below)
+
+  -- what was read at p is what the step prints
+  pub stepped : (shown : Printed) → PrintsAt (view m) p shown → Forwarded m (nextStep (view m) position) (Stepped shown) left
+  stepped shown read = go (nextStep (view m) position) refl
+    where
+      go : (x : Option Step) → nextStep (view m) position ≡ x → Forwarded m (nextStep (view m) position) (Stepped shown) left
+      go none q = absurd (omega (arith, ap isSomewhere (made .answer-is ∙ ap steppedBy q)))
+      go (some s) q =
+          let first = next-found (view m) position s q in
+          let here : p ≡ s .position = ap positionOf (made .answer-is ∙ ap steppedBy q) in
+          let text = done-prints (view m) (s .position) (s .reached) (first .is-step) in
+          let there = subst (λ (k : ℕ). printedAt (view m) k ≡ some (text .what)) (sym here) (text .prints) in
+          let what : printedOf shown ≡ text .what = read (text .what) there in
           let at : shown .position ≡ p =
-          ap (λ (x : rules.Printed). x .position) what ∙ told-position (view m₀) p (told .what) there in
+          ap (λ (x : rules.Printed). x .position) what ∙ told-position (view m) p (text .what) there in
           record {
-            made = record { answer-is = ap place.At at ∙ found .answer-is; memory-is = found .memory-is };
-            prints = ap some what ∙ sym (told .prints) ∙ ap (λ (st : State). printedAt st (s .position)) (sym (first .before-is))
+            made = record { answer-is = ap place.At at ∙ made .answer-is; memory-is = made .memory-is };
+            prints = ap some what ∙ sym (text .prints) ∙ ap (λ (st : State). printedAt st (s .position)) (sym (first .before-is))
                 ∙ ap stepPrinted (sym q);
           }
 
-  -- p does not step: the memory is as it was, and the search goes on
-  pub turn-on : (n next : ℕ) → reply ≡ Refused n → next ≡ nextPosition p
-      → (left ≡ m₀) × (nextStep (view m₀) position ≡ firstOf (positionCount - (tried + 1)) (view m₀) next)
-  turn-on n next is e =
-      let further = not-here m₀ position p tried left-to-try so-far asked₀ n next is e in
-      let one-less : positionCount - suc tried ≡ positionCount - (tried + 1) = omega arith in
-      (further .unchanged, further .goes-on ∙ ap (λ (k : ℕ). firstOf k (view m₀) next) one-less)
-
--- every position was tried
-pub none-steps : (m₀ : List ℕ) (position p tried : ℕ) {m : List ℕ} → positionCount ≤ tried → m ≡ m₀
-    → nextStep (view m₀) position ≡ firstOf (positionCount - tried) (view m₀) p
-    → Forwarded m₀ (nextStep (view m₀) position) Nowhere m
-none-steps m₀ position p tried {m} h same so-far =
-    go (nextStep (view m₀) position) refl (none-found m₀ position p tried h so-far)
+-- nothing steps
+pub none-steps : (m : List ℕ) (position : ℕ) {left : List ℕ} → Made m position place.Nowhere left
+    → Forwarded m (nextStep (view m) position) Nowhere left
+none-steps m position {left} made = go (nextStep (view m) position) refl
   where
-    go : (x : Option Step) → nextStep (view m₀) position ≡ x
-        → Promise (steppedBy (nextStep (view m₀) position)) (memoryBy m₀ (nextStep (view m₀) position)) place.Nowhere m₀
-        → Forwarded m₀ (nextStep (view m₀) position) Nowhere m
-    go none q found = record {
-      made = record { answer-is = found .answer-is; memory-is = same ∙ found .memory-is };
-      prints = ap stepPrinted (sym q);
-    }
-    go (some s) q found = absurd (omega (arith, ap isSomewhere (found .answer-is ∙ ap steppedBy q)))
+    go : (x : Option Step) → nextStep (view m) position ≡ x → Forwarded m (nextStep (view m) position) Nowhere left
+    go none q = record { made = made; prints = ap stepPrinted (sym q) }
+    go (some s) q = absurd (omega (arith, ap isSomewhere (made .answer-is ∙ ap steppedBy q)))

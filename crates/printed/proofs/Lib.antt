@@ -1,6 +1,7 @@
 pub mod Telling
-pub mod Asking
+pub mod Naming
 pub mod Going
+pub mod WordLaws
 pub mod LineBytes
 pub mod Lengths
 pub mod RunLines

@@ -20,7 +20,7 @@ use Rattle.keeping.proofs.StepLaws.{steps-one}
 use Rattle.text.specs.Written.{Written}
 use Rattle.text.proofs.Texts.{written-more, written-as}
 use Rattle.runner.specs.Runs.{steppedBy}
-use Rattle.runner.proofs.Places.{isSomewhere, no-step}
+use Rattle.runner.proofs.Somewhere.{isSomewhere, no-step}
 use Rattle.runner.proofs.Making.{MadeSoFar, none-yet, more, none-more, stopped, ended, position-in-range, one-more}
 use Rattle.printed.specs.declared.kinds.Printed.{Printed}
 use Rattle.printed.specs.declared.forward.Forward.{Forward}

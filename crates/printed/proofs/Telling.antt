@@ -7,7 +7,6 @@ use Prim.Native.Nat.{ℕ, _-_, _≤_, _<_}
 use native.Mathlib.Omega.{arith}
 use lib.ListN.{length}
 use lib.Dec.{ltb}
-use lib.IntN.{pos}
 use borrow.Author.Tests.{lt-ltb, le-ltb}
 use Rattle.rules.specs.Limits.{recordCount}
 use Rattle.rules.specs.State.{State, Datum, value, handle, split-item, close-item, wait-item, Item, datum, last}
@@ -17,21 +16,21 @@ use Rattle.rules.specs.RecordStep.{partnerIn}
 use Rattle.rules.proofs.TestLaws.{true-is-not-false}
 use Rattle.rules.proofs.Rows.{all-passed}
 use Rattle.rules.specs.Refusal.{done}
-use Rattle.rules.specs.Instruction.{Name, Instruction, Decoded, decode}
+use Rattle.rules.specs.Instruction.{Decoded, decode}
 use Rattle.rules.specs.EndStep.{Wanted, a-value, a-handle, a-split, Waiter, waiterIn, Meeting, mismatch, delivers, divides, closes}
 use Rattle.rules.specs.EndStep.{isMismatch, endCauses}
 use Rattle.rules.specs.EndStep.{handleChosen, meetDatum, meetSplit, datumAgainst, splitAgainst, meetHeads, meeting}
 use Rattle.rules.specs.Ask.{askDecoded, askIn, askRecord, askEnd, pickAnswer, ask}
-use Rattle.rules.specs.Printed.{Printed, printed, nameOf, instruction-kind}
+use Rattle.rules.specs.Printed.{Printed}
 use Rattle.rules.specs.Printed.{pickPrinted, printedMeeting, printedRecord, printedDecoded, printedAt}
 use Rattle.registers.specs.Registers.{registersIn}
 use Rattle.printed.specs.Meaning.{itemPrinted}
 
 -- an equation of two cases that differ
-differ : {A : Type 0} {x : Printed} → _≡_ {A = Option Printed} none (some x) → A
+pub differ : {A : Type 0} {x : Printed} → _≡_ {A = Option Printed} none (some x) → A
 differ h = absurd (let z : _≡_ {A = ℕ} 0 1 = cc in omega arith)
 
-same : {x y : Printed} → some x ≡ some y → x ≡ y
+pub same : {x y : Printed} → some x ≡ some y → x ≡ y
 same h = cc
 
 -- ---- two heads
@@ -142,15 +141,6 @@ record-prints st p place d z l at is h = go (recordAt st p) at (rw (lt-ltb p rec
     go free-record q k = differ k
     go (waiting g) q k = differ k
     go (running g) q k = ap (printedDecoded p) (is ∙ ap (decode (st .code)) q) ∙ k
-
--- nothing decoded, nothing printed
-pub undecoded : {A : Type 0} (p : ℕ) (z : Printed) → printedDecoded p none ≡ some z → A
-undecoded p z h = differ h
-
--- the name of what is decoded is printed
-pub decoded-name : (p : ℕ) (i : Instruction) (next : ℕ) (z : Printed) {name : Name} → name ≡ nameOf i
-    → printedDecoded p (some (record { instruction = i; next = next })) ≡ some z → printed p (instruction-kind name) (pos 0) ≡ z
-decoded-name p i next z e h = ap (λ (n : Name). printed p (instruction-kind n) (pos 0)) e ∙ same h
 
 -- the position that is printed is the one asked
 pub told-position : (st : State) (p : ℕ) (z : Printed) → printedAt st p ≡ some z → z .position ≡ p

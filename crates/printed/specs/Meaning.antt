@@ -1,47 +1,36 @@
--- What the answers of the code stand for: a name, a kind and what is printed, of `rules`, Printed. Assumes nothing.
+-- What the answers of the code stand for: a first byte, a kind and what is printed, of `rules`, Printed. Assumes nothing.
 use mathlib.Core.Path.{_≡_}
 use mathlib.Core.Option.{some}
 use mathlib.Core.List.{List, []}
-use Prim.Native.Nat.{ℕ}
+use Prim.Native.Nat.{ℕ, _+_, _-_, _%_}
+use lib.ListN.{getD}
+use lib.Dec.{ltb}
 use lib.IntN.{pos}
 use Rattle.rules.specs.State as states
 use Rattle.rules.specs.State.{State, start}
 use Rattle.rules.specs.Instruction as instructions
+use Rattle.rules.specs.Instruction.{form, forms, nothing-listed}
 use Rattle.rules.specs.Printed as rules
 use Rattle.rules.specs.Run as run
 use Rattle.rules.specs.Printed.{printed, printedAt, lastText}
+use Rattle.text.specs.Written.{pick}
 use Rattle.runner.specs.declared.verdict.Verdict.{Verdict}
 use Rattle.runner.specs.declared.verdict.Verdict.the-variants.{Spent, Finished, Stuck}
-use Rattle.printed.specs.declared.kinds.Name.{Name}
-use Rattle.printed.specs.declared.kinds.Name.the-variants.{Cst, Access, Store, Add, Mul, Leq, Put, Get, Split, Fork}
-use Rattle.printed.specs.declared.kinds.Name.the-variants.{Plug, Close, Halt, Same, Hput, Hcase, Run}
 use Rattle.printed.specs.declared.kinds.Kind.{Kind}
 use Rattle.printed.specs.declared.kinds.Kind.the-variants as kind
 use Rattle.printed.specs.declared.kinds.Printed.{Printed}
 
--- the name that a name of the code stands for
-abbrev pub nameIn : Name → instructions.Name
-nameIn Cst = instructions.cst-name
-nameIn Access = instructions.access-name
-nameIn Store = instructions.store-name
-nameIn Add = instructions.add-name
-nameIn Mul = instructions.mul-name
-nameIn Leq = instructions.leq-name
-nameIn Put = instructions.put-name
-nameIn Get = instructions.get-name
-nameIn Split = instructions.split-name
-nameIn Fork = instructions.fork-name
-nameIn Plug = instructions.plug-name
-nameIn Close = instructions.close-name
-nameIn Halt = instructions.halt-name
-nameIn Same = instructions.same-name
-nameIn Hput = instructions.hput-name
-nameIn Hcase = instructions.hcase-name
-nameIn Run = instructions.run-name
+-- the row of document 01's table that a first byte has; one that begins no instruction is never shown, and has one of them too
+unfoldable pub rowOf : (first : ℕ) → ℕ
+rowOf first = pick (ltb first 16) ((first + 5) % 6) (6 + (first - 16) % 11)
+
+-- the name in a row
+unfoldable pub nameIn : (row : ℕ) → instructions.Name
+nameIn row = getD forms row (form 0 instructions.cst-name 0 nothing-listed) .name
 
 -- the kind
 abbrev pub kindIn : Kind → rules.Kind
-kindIn (kind.Instruction name) = rules.instruction-kind (nameIn name)
+kindIn (kind.Instruction first) = rules.instruction-kind (nameIn (rowOf first))
 kindIn kind.Value = rules.value-kind
 kindIn kind.Handle = rules.handle-kind
 kindIn kind.Split = rules.split-kind

@@ -1,5 +1,5 @@
-// One step of a run, with what it prints: each position from one on, going around, is read and then asked, until one steps. A position
-// that cannot step leaves the memory as it was.
+// One step of a run, with what it prints. The runner finds the position and makes the step; what the step prints is read at that position
+// from a copy of the memory before it.
 ghost use mathlib.Core.Path.{_≡_};
 ghost use Prim.Native.Nat.{_<_};
 ghost use lib.ListN.{length};
@@ -11,9 +11,9 @@ ghost use Rattle.keeping.specs.Demand3.{SoundMemory};
 ghost use Rattle.printed.specs.Forwarded.{Forwarded};
 use crate::kinds::Printed;
 use crate::reading::printed_at;
-use rules::POSITION_COUNT;
-use rules::Reply;
-use runner::position_after;
+use rules::offsets::STATE_SIZE;
+use runner::Stepped;
+use runner::step_from;
 
 // Nothing can step, or a step was made, and this is what it prints.
 pub enum Forward {
@@ -26,15 +26,10 @@ pub fn step_forward(m: &mut [u8], lengths: &[u8; 256], position: u32) -> Forward
     requires { ⌜ SoundMemory (now m) × (now lengths ≡ lengthsOfRules) ⌝ }
     ensures { λ r. ⌜ Forwarded (now (m .entry)) (nextStep (view (now (m .entry))) position) r (now (m .exit)) ⌝ }
 {
-    let mut p = position;
-    let mut tried = 0;
-    while tried < POSITION_COUNT {
-        let shown = printed_at(m, lengths, p);
-        if let Reply::Done = asking::step(m, lengths, p) {
-            return Forward::Stepped(shown);
-        }
-        p = position_after(p);
-        tried += 1;
+    let mut before = [0; STATE_SIZE];
+    words::copy(m, &mut before, 0);
+    match step_from(m, lengths, position) {
+        Stepped::Nowhere => Forward::Nowhere,
+        Stepped::At(p) => Forward::Stepped(printed_at(&before, p)),
     }
-    Forward::Nowhere
 }

@@ -3,6 +3,7 @@
 // are those of `rules`, Printed.
 mod forward; // forward.rt: one step, and what it prints
 mod kinds; // kinds.rt: what is printed
+mod line_words; // line_words.rt: the words of a line, in one table
 mod lines; // lines.rt: a line as text
 mod reading; // reading.rt: what the step at a position prints
 mod tracing; // tracing.rt: the whole text for an image
@@ -10,7 +11,6 @@ mod tracing; // tracing.rt: the whole text for an image
 pub use forward::Forward;
 pub use forward::step_forward;
 pub use kinds::Kind;
-pub use kinds::Name;
 pub use kinds::Printed;
 pub use lines::put_last;
 pub use lines::put_line;

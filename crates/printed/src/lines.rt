@@ -4,44 +4,23 @@ ghost use mathlib.Core.List.{_++_};
 ghost use mathlib.Core.Option.{some};
 ghost use Prim.Native.Nat.{_+_, _≤_};
 ghost use lib.ListN.{length};
-ghost use Rattle.rules.specs.Text.{text as textOf, decimal, signedDecimal};
-ghost use Rattle.rules.specs.Printed.{nameText, kindText, positionText, lineText, verdictText};
+ghost use Rattle.rules.specs.Text.{text as textOf, decimal};
+ghost use Rattle.rules.specs.Printed.{kindText, positionText, lineText, verdictText};
 ghost use Rattle.text.specs.Written.{Written};
-ghost use Rattle.printed.specs.Meaning.{nameIn, kindIn, printedOf, verdictIn, lastLine};
+ghost use Rattle.printed.specs.Meaning.{kindIn, printedOf, verdictIn, lastLine};
 use crate::kinds::Kind;
-use crate::kinds::Name;
 use crate::kinds::Printed;
+use crate::line_words::is_numbered;
+use crate::line_words::put_word;
+use crate::line_words::word_of;
+use crate::line_words::word_of_verdict;
 use rules::RECORD_COUNT;
 use runner::Verdict;
 use text::put_bytes;
 use text::put_decimal;
+use text::put_letter;
+use text::put_lettered;
 use text::put_signed;
-
-// The name of an instruction.
-fn put_name(out: &mut [u8], at: usize, name: Name) -> usize
-    requires { ⌜ at + length (nameText (nameIn name)) ≤ length (now out) ⌝ }
-    ensures { λ r. ⌜ Written (now (out .entry)) at (nameText (nameIn name)) (now (out .exit)) r ⌝ }
-{
-    match name {
-        Name::Cst => put_bytes(out, at, b"cst"),
-        Name::Access => put_bytes(out, at, b"access"),
-        Name::Store => put_bytes(out, at, b"store"),
-        Name::Add => put_bytes(out, at, b"add"),
-        Name::Mul => put_bytes(out, at, b"mul"),
-        Name::Leq => put_bytes(out, at, b"leq"),
-        Name::Put => put_bytes(out, at, b"put"),
-        Name::Get => put_bytes(out, at, b"get"),
-        Name::Split => put_bytes(out, at, b"split"),
-        Name::Fork => put_bytes(out, at, b"fork"),
-        Name::Plug => put_bytes(out, at, b"plug"),
-        Name::Close => put_bytes(out, at, b"close"),
-        Name::Halt => put_bytes(out, at, b"halt"),
-        Name::Same => put_bytes(out, at, b"same"),
-        Name::Hput => put_bytes(out, at, b"hput"),
-        Name::Hcase => put_bytes(out, at, b"hcase"),
-        Name::Run => put_bytes(out, at, b"run"),
-    }
-}
 
 // R and the record, or E and the end.
 fn put_position(out: &mut [u8], at: usize, position: u32) -> usize
@@ -49,20 +28,9 @@ fn put_position(out: &mut [u8], at: usize, position: u32) -> usize
     ensures { λ r. ⌜ Written (now (out .entry)) at (positionText position) (now (out .exit)) r ⌝ }
 {
     if position < RECORD_COUNT as u32 {
-        let record = put_bytes(out, at, b"R");
-        return put_decimal(out, record, position as u64);
+        return put_lettered(out, at, b'R', position as u64);
     }
-    let end = put_bytes(out, at, b"E");
-    put_decimal(out, end, (position - RECORD_COUNT as u32) as u64)
-}
-
-// A word with its space, and a signed number.
-fn put_numbered(out: &mut [u8], at: usize, word: &[u8], number: i32) -> usize
-    requires { ⌜ at + length (now word ++ signedDecimal number) ≤ length (now out) ⌝ }
-    ensures { λ r. ⌜ Written (now (out .entry)) at (now (word .entry) ++ signedDecimal number) (now (out .exit)) r ⌝ }
-{
-    let behind = put_bytes(out, at, word);
-    put_signed(out, behind, number)
+    put_lettered(out, at, b'E', (position - RECORD_COUNT as u32) as u64)
 }
 
 // The instruction's name, or value or handle with its number, or split or close.
@@ -70,13 +38,11 @@ fn put_kind(out: &mut [u8], at: usize, kind: Kind, number: i32) -> usize
     requires { ⌜ at + length (kindText (kindIn kind) number) ≤ length (now out) ⌝ }
     ensures { λ r. ⌜ Written (now (out .entry)) at (kindText (kindIn kind) number) (now (out .exit)) r ⌝ }
 {
-    match kind {
-        Kind::Instruction(name) => put_name(out, at, name),
-        Kind::Value => put_numbered(out, at, b"value ", number),
-        Kind::Handle => put_numbered(out, at, b"handle ", number),
-        Kind::Split => put_bytes(out, at, b"split"),
-        Kind::Close => put_bytes(out, at, b"close"),
+    let behind = put_word(out, at, word_of(kind));
+    if is_numbered(kind) {
+        return put_signed(out, behind, number);
     }
+    behind
 }
 
 // The line of a step; the steps are counted from 1.
@@ -86,11 +52,11 @@ pub fn put_line(out: &mut [u8], at: usize, number: u32, x: Printed) -> usize
 {
     let kind = x.kind;
     let space = put_decimal(out, at, number as u64);
-    let asked = put_bytes(out, space, b" ");
+    let asked = put_letter(out, space, b' ');
     let behind = put_position(out, asked, x.position);
-    let made = put_bytes(out, behind, b" ");
+    let made = put_letter(out, behind, b' ');
     let end = put_kind(out, made, kind, x.number);
-    put_bytes(out, end, b"\n")
+    put_letter(out, end, b'\n')
 }
 
 // The only line for an image that is refused.
@@ -100,7 +66,7 @@ pub fn put_refused(out: &mut [u8], at: usize, n: u8) -> usize
 {
     let number = put_bytes(out, at, b"refused ");
     let end = put_decimal(out, number, n as u64);
-    put_bytes(out, end, b"\n")
+    put_letter(out, end, b'\n')
 }
 
 // The word of a verdict.
@@ -108,11 +74,7 @@ pub fn put_verdict(out: &mut [u8], at: usize, verdict: Verdict) -> usize
     requires { ⌜ at + length (verdictText (verdictIn verdict)) ≤ length (now out) ⌝ }
     ensures { λ r. ⌜ Written (now (out .entry)) at (verdictText (verdictIn verdict)) (now (out .exit)) r ⌝ }
 {
-    match verdict {
-        Verdict::Spent => put_bytes(out, at, b"spent"),
-        Verdict::Finished => put_bytes(out, at, b"finished"),
-        Verdict::Stuck => put_bytes(out, at, b"stuck"),
-    }
+    put_word(out, at, word_of_verdict(verdict))
 }
 
 // The last line: verdict, steps, next position.
@@ -121,9 +83,7 @@ pub fn put_last(out: &mut [u8], at: usize, verdict: Verdict, made: u16, next: u3
     ensures { λ r. ⌜ Written (now (out .entry)) at (lastLine verdict made next) (now (out .exit)) r ⌝ }
 {
     let space = put_verdict(out, at, verdict);
-    let steps = put_bytes(out, space, b" ");
-    let behind = put_decimal(out, steps, made as u64);
-    let position = put_bytes(out, behind, b" ");
-    let end = put_decimal(out, position, next as u64);
-    put_bytes(out, end, b"\n")
+    let behind = put_lettered(out, space, b' ', made as u64);
+    let end = put_lettered(out, behind, b' ', next as u64);
+    put_letter(out, end, b'\n')
 }

@@ -7,7 +7,6 @@ ghost use lib.ListN.{length};
 ghost use lib.IntN.{pos};
 ghost use Rattle.rules.specs.Limits.{recordCount, positionCount};
 ghost use Rattle.rules.specs.State.{State};
-ghost use Rattle.rules.specs.Instruction.{lengths as lengthsOfRules};
 ghost use Rattle.rules.specs.EndStep.{meetHeads};
 ghost use Rattle.rules.specs.Printed.{printed, printedMeeting, close-kind, Printed as PrintedByRules};
 ghost use Rattle.rules.specs.Layout.{stateSize, view};
@@ -16,8 +15,6 @@ ghost use Rattle.ends.specs.Items.{itemOf};
 ghost use Rattle.printed.specs.Meaning.{PrintsAt, printedOf, itemPrinted};
 use crate::kinds::Kind;
 use crate::kinds::Printed;
-use crate::kinds::name_of;
-use code::Decoded;
 use ends::Head;
 use ends::Item;
 use rules::End;
@@ -35,20 +32,20 @@ fn closed(position: u32) -> Printed
     }
 }
 
-// The name of the instruction at the record's place.
-fn of_record(m: &[u8], lengths: &[u8; 256], position: u32) -> Printed
-    requires { ⌜ (length (now m) ≡ stateSize) × (position < recordCount) ⌝ }
-    requires { ⌜ SoundMemory (now m) × (now lengths ≡ lengthsOfRules) ⌝ }
+// The instruction at the record's place.
+fn of_record(m: &[u8], position: u32) -> Printed
+    requires { ⌜ (length (now m) ≡ stateSize) × (position < recordCount) × SoundMemory (now m) ⌝ }
     ensures { λ r. ⌜ PrintsAt (view (now (m .entry))) position r ⌝ }
 {
     let place = registers::place_of(m, Record(position as u8)) as usize;
-    match code::decode(lengths, stepping::code(m), place) {
-        Decoded::Bad => closed(position),
-        Decoded::Good(i, _) => Printed {
-            position,
-            kind: Kind::Instruction(name_of(i)),
-            number: 0,
-        },
+    let code = stepping::code(m);
+    if code.len() <= place {
+        return closed(position);
+    }
+    Printed {
+        position,
+        kind: Kind::Instruction(code[place]),
+        number: 0,
     }
 }
 
@@ -82,13 +79,10 @@ fn of_items(position: u32, x: Item, y: Item) -> Printed
     ensures { λ r. ⌜ ((st : State) (e f : ℕ) (z : PrintedByRules)
         → printedMeeting position (meetHeads st e f (some (itemOf x)) (some (itemOf y))) ≡ some z → printedOf r ≡ z) ⌝ }
 {
-    match x {
-        Item::Value(_) => of_item(position, x),
-        Item::Handle(_) => of_item(position, x),
-        Item::Split(_, _) => of_item(position, x),
-        Item::Close => of_item(position, x),
-        Item::Wait(_) => of_item(position, y),
+    if let Item::Wait(_) = x {
+        return of_item(position, y);
     }
+    of_item(position, x)
 }
 
 // What was delivered, divided or closed at an end.
@@ -107,13 +101,12 @@ fn of_end(m: &[u8], position: u32) -> Printed
 }
 
 // What the step at a position prints, if the position can step.
-pub fn printed_at(m: &[u8], lengths: &[u8; 256], position: u32) -> Printed
-    requires { ⌜ (length (now m) ≡ stateSize) × (position < positionCount) ⌝ }
-    requires { ⌜ SoundMemory (now m) × (now lengths ≡ lengthsOfRules) ⌝ }
+pub fn printed_at(m: &[u8], position: u32) -> Printed
+    requires { ⌜ (length (now m) ≡ stateSize) × (position < positionCount) × SoundMemory (now m) ⌝ }
     ensures { λ r. ⌜ PrintsAt (view (now (m .entry))) position r ⌝ }
 {
     if position < RECORD_COUNT as u32 {
-        return of_record(m, lengths, position);
+        return of_record(m, position);
     }
     of_end(m, position)
 }

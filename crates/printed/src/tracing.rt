@@ -16,7 +16,7 @@ use crate::lines::put_last;
 use crate::lines::put_line;
 use crate::lines::put_refused;
 use rules::Reply;
-use rules::places::STATE_SIZE;
+use rules::offsets::STATE_SIZE;
 use runner::position_after;
 use runner::verdict_of;
 

@@ -1,17 +1,15 @@
--- Arrays of values: what a shift by one makes of a padded list, their counts, and the values passed to a callee. A signed number that is
--- moved is read back from its bits, so the laws of shifts ask that the values fit. Assumes nothing.
+-- Arrays of values: what a shift by one makes of a padded list, their counts, and the values passed to a callee. Assumes nothing.
 use mathlib.Core.Path.{_≡_, refl, sym, ap, _∙_}
-use mathlib.Core.List.{List, [], _∷_, _++_, reverse, reverse-append}
+use mathlib.Core.List.{List, [], _∷_, reverse, reverse-append}
 use Prim.Native.Nat.{ℕ, zero, suc, _+_, _-_, _≤_, _<_}
-use native.Mathlib.Nat.{le-of-suc-le-suc}
 use native.Mathlib.Numerals.{add-one}
+use native.Mathlib.Decide.{decLt}
 use native.Mathlib.Omega.{arith}
-use lib.ListN.{length, getD, take, drop, length-drop}
-use lib.Seq.{getD-drop, drop-drop, take-suc}
+use lib.ListN.{length, getD, take, drop, length-drop, List·getD-eq-default}
+use lib.Seq.{getD-drop, drop-drop, take-suc, set-getD}
 use lib.IntN.{ℤ, pos}
 use mir.Syntax.{w32}
 use mir.Val.{Val, toZ, ofZ, SFits}
-use mir.Facts.{toZ-ofZ}
 use denote.Signed.{SInt}
 use denote.Array.{Array, each}
 use denote.Shadow.{shadow}
@@ -21,7 +19,7 @@ use Rattle.rules.specs.Limits.{stackDepth}
 use Rattle.rules.specs.Bytes.{pad, table}
 use Rattle.rules.specs.State.{Value, Registers as Process, registers}
 use Rattle.words.proofs.Pads.{length-pad, getD-pad}
-use Rattle.words.proofs.Tables.{table-is}
+use Rattle.words.proofs.Tables.{table-is, Filled, filled-more, filled-all}
 use Rattle.registers.specs.Registers.{stored, passed}
 
 -- ---- the values of an array fit
@@ -42,45 +40,47 @@ pub table-pad : (n : ℕ) (f : ℕ → Value) (l : List Value) → ((i : ℕ) �
 table-pad n f l h =
     table-is (pos 0) n f (pad n (pos 0) l) (length-pad n (pos 0) l) (λ i p. h i p ∙ sym (getD-pad n (pos 0) l i p))
 
--- one more cell behind a list that has room
-pad-more : (n : ℕ) (l : List Value) → length l ≤ n → pad n (pos 0) l ++ (pos 0 ∷ []) ≡ pad (suc n) (pos 0) l
-unfolding pad
-pad-more zero [] h = refl
-pad-more zero (x ∷ l) h = absurd (omega arith)
-pad-more (suc n) [] h = ap (λ (r : List Value). pos 0 ∷ r) (pad-more n [] (omega arith))
-pad-more (suc n) (x ∷ l) h = ap (λ (r : List Value). x ∷ r) (pad-more n l (le-of-suc-le-suc h))
-
 -- a value as it is read back from its bits
 abbrev pub moved : Value → Value
 moved v = toZ w32 (ofZ w32 v)
-
-module _ (n : ℕ) (a l : List Value) (fits : (i : ℕ) → SFits w32 (getD a i (pos 0))) (e : a ≡ pad (suc n) (pos 0) l) where
-  read-pad : (i : ℕ) → i < suc n → moved (getD a i (pos 0)) ≡ getD l i (pos 0)
-  read-pad i h =
-      toZ-ofZ {w = w32} {z = getD a i (pos 0)} (fits i)
-      ∙ ap (λ (x : List Value). getD x i (pos 0)) e
-      ∙ getD-pad (suc n) (pos 0) l i h
-
-  -- v in front of the first n
-  pub front-law : (v : Value) → SFits w32 v → moved v ∷ table n (λ (i : ℕ). moved (getD a i (pos 0))) ≡ pad (suc n) (pos 0) (v ∷ l)
-  unfolding pad
-  front-law v f =
-      let behind = table-pad n (λ (i : ℕ). moved (getD a i (pos 0))) l (λ i h. read-pad i (omega arith)) in
-      λ j. toZ-ofZ {w = w32} {z = v} f j ∷ behind j
-
-  -- those behind the first, and a zero
-  pub behind-law : length l ≤ suc n → table n (λ (i : ℕ). moved (getD a (suc i) (pos 0))) ++ (pos 0 ∷ []) ≡ pad (suc n) (pos 0) (drop 1 l)
-  behind-law h =
-      let rest : length (drop 1 l) ≤ n = omega (arith, length-drop 1 l) in
-      ap (λ (x : List Value). x ++ (pos 0 ∷ []))
-      (table-pad n (λ (i : ℕ). moved (getD a (suc i) (pos 0))) (drop 1 l)
-      (λ i p. read-pad (suc i) (omega arith) ∙ ap (λ (k : ℕ). getD l k (pos 0)) (omega arith) ∙ sym (getD-drop 1 l i (pos 0))))
-      ∙ pad-more n (drop 1 l) rest
 
 -- the value in cell i
 pub value-is : (i : ℕ) {a : List Value} (l : List Value) → i < stackDepth → a ≡ pad stackDepth (pos 0) l
     → getD a i (pos 0) ≡ getD l i (pos 0)
 value-is i l h e = ap (λ (x : List Value). getD x i (pos 0)) e ∙ getD-pad stackDepth (pos 0) l i h
+
+-- v in front of an array's values: each stands one cell on
+pub front-next : (v : Value) (a : List Value) (k : ℕ) → 0 < k → getD a (k - 1) (pos 0) ≡ getD (v ∷ a) k (pos 0)
+front-next v a zero h = absurd (omega arith)
+front-next v a (suc k) h = ap (λ (j : ℕ). getD a j (pos 0)) (omega arith)
+
+pub front-law : (v : Value) (a l : List Value) → a ≡ pad stackDepth (pos 0) l
+    → table stackDepth (λ (j : ℕ). getD (v ∷ a) j (pos 0)) ≡ pad stackDepth (pos 0) (v ∷ l)
+front-law v a l e = table-pad stackDepth (λ (j : ℕ). getD (v ∷ a) j (pos 0)) (v ∷ l) go
+  where
+    go : (i : ℕ) → i < stackDepth → getD (v ∷ a) i (pos 0) ≡ getD (v ∷ l) i (pos 0)
+    go zero h = refl
+    go (suc i) h = value-is i l (omega arith) e
+
+-- the values behind the first: the last cell stays zero
+pub behind-filled : (a b : List Value) (k : ℕ) → length a ≡ stackDepth → k + 1 ≡ stackDepth
+    → Filled (pos 0) stackDepth (λ (j : ℕ). getD a (j + 1) (pos 0)) b k → getD b k (pos 0) ≡ pos 0
+    → b ≡ table stackDepth (λ (j : ℕ). getD a (j + 1) (pos 0))
+behind-filled a b k s l f z =
+    let past = List·getD-eq-default a (pos 0) {n = k + 1} (omega arith) in
+    sym (set-getD b k (pos 0)) ∙ filled-all (filled-more f (omega arith) (z ∙ sym past)) (omega arith)
+
+pub behind-law : (a l : List Value) → length l ≤ stackDepth → a ≡ pad stackDepth (pos 0) l
+    → table stackDepth (λ (j : ℕ). getD a (j + 1) (pos 0)) ≡ pad stackDepth (pos 0) (drop 1 l)
+behind-law a l h e =
+    table-pad stackDepth (λ (j : ℕ). getD a (j + 1) (pos 0)) (drop 1 l)
+    (λ i p. go i (decLt (i + 1) stackDepth) ∙ ap (λ (k : ℕ). getD l k (pos 0)) (omega arith) ∙ sym (getD-drop 1 l i (pos 0)))
+  where
+    go : (i : ℕ) → Dec (i + 1 < stackDepth) → getD a (i + 1) (pos 0) ≡ getD l (i + 1) (pos 0)
+    go i (yes q) = value-is (i + 1) l q e
+    go i (no q) =
+        let size = ap length e ∙ length-pad stackDepth (pos 0) l in
+        List·getD-eq-default a (pos 0) {n = i + 1} (omega arith) ∙ sym (List·getD-eq-default l (pos 0) {n = i + 1} (omega arith))
 
 -- another value in front
 pub front-is : (l : List Value) {v w : Value} → v ≡ w → pad stackDepth (pos 0) (v ∷ l) ≡ pad stackDepth (pos 0) (w ∷ l)

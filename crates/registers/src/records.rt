@@ -23,15 +23,15 @@ use rules::RECORD_COUNT;
 use rules::Record;
 use rules::SLOT_COUNT;
 use rules::STACK_DEPTH;
-use rules::places::ENVIRONMENT_COUNT_FROM;
-use rules::places::ENVIRONMENT_FROM;
-use rules::places::PLACE_FROM;
-use rules::places::RECORD_SIZE;
-use rules::places::RECORDS_AT;
-use rules::places::SLOTS_FROM;
-use rules::places::STACK_COUNT_FROM;
-use rules::places::STACK_FROM;
-use rules::places::VALUE_SIZE;
+use rules::offsets::ENVIRONMENT_COUNT_FROM;
+use rules::offsets::ENVIRONMENT_FROM;
+use rules::offsets::PLACE_FROM;
+use rules::offsets::RECORD_SIZE;
+use rules::offsets::RECORDS_AT;
+use rules::offsets::SLOTS_FROM;
+use rules::offsets::STACK_COUNT_FROM;
+use rules::offsets::STACK_FROM;
+use rules::offsets::VALUE_SIZE;
 
 // What a record is.
 pub enum Status {

@@ -1,5 +1,5 @@
 // The cells of a stack or an environment, values first and zeros behind them: shifted by one, read from a slice of bytes and written into
-// it. The shifts are written out and the loops are plain, so that both become block moves.
+// it. The loops are plain, so that they become block moves.
 ghost use mathlib.Core.Path.{_≡_};
 ghost use mathlib.Core.List.{List, _∷_};
 ghost use Prim.Native.Nat.{_+_, _*_, _≤_};
@@ -12,31 +12,20 @@ ghost use Rattle.rules.specs.Layout.{valueSize, valueBytes};
 ghost use Rattle.words.specs.Parts.{putAt};
 ghost use Rattle.registers.specs.Registers.{valuesAt};
 use rules::STACK_DEPTH;
-use rules::places::VALUE_SIZE;
+use rules::offsets::VALUE_SIZE;
 
-// Bytes of a value.
 // v in front of the values.
 pub fn in_front(v: i32, values: [i32; STACK_DEPTH]) -> [i32; STACK_DEPTH]
     ensures { λ r. ⌜ ((l : List Value) → values ≡ pad stackDepth (pos 0) l → r ≡ pad stackDepth (pos 0) (v ∷ l)) ⌝ }
 {
-    [
-        v,
-        values[0],
-        values[1],
-        values[2],
-        values[3],
-        values[4],
-        values[5],
-        values[6],
-        values[7],
-        values[8],
-        values[9],
-        values[10],
-        values[11],
-        values[12],
-        values[13],
-        values[14],
-    ]
+    let mut anew = [0; STACK_DEPTH];
+    anew[0] = v;
+    let mut k = 1;
+    while k < STACK_DEPTH {
+        anew[k] = values[k - 1];
+        k += 1;
+    }
+    anew
 }
 
 // The values behind the first.
@@ -44,24 +33,13 @@ pub fn behind_first(values: [i32; STACK_DEPTH]) -> [i32; STACK_DEPTH]
     ensures { λ r. ⌜ ((l : List Value) → length l ≤ stackDepth → values ≡ pad stackDepth (pos 0) l
         → r ≡ pad stackDepth (pos 0) (drop 1 l)) ⌝ }
 {
-    [
-        values[1],
-        values[2],
-        values[3],
-        values[4],
-        values[5],
-        values[6],
-        values[7],
-        values[8],
-        values[9],
-        values[10],
-        values[11],
-        values[12],
-        values[13],
-        values[14],
-        values[15],
-        0,
-    ]
+    let mut anew = [0; STACK_DEPTH];
+    let mut k = 0;
+    while k + 1 < STACK_DEPTH {
+        anew[k] = values[k + 1];
+        k += 1;
+    }
+    anew
 }
 
 // The values that stand in m from `at` on.

@@ -1,4 +1,4 @@
-pub mod Places
+pub mod Somewhere
 pub mod Search
 pub mod Verdicts
 pub mod Making

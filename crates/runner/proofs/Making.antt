@@ -21,7 +21,7 @@ use Rattle.keeping.proofs.StepLaws.{steps-add, steps-stop, steps-one, reached-a
 use Rattle.runner.specs.declared.searching.Stepped.{Stepped}
 use Rattle.runner.specs.declared.searching.Stepped.the-variants.{Nowhere, At}
 use Rattle.runner.specs.Runs.{steppedBy, memoryBy, Ended}
-use Rattle.runner.proofs.Places.{isSomewhere, positionOf, no-step}
+use Rattle.runner.proofs.Somewhere.{isSomewhere, positionOf, no-step}
 
 -- so many steps have been made from st and start, the next position and the memory
 pub record MadeSoFar (st : State) (start made next : ℕ) (m : List ℕ) : Type 0 where

@@ -37,7 +37,7 @@ use Rattle.asking.proofs.Answers.{free, waits, of-a-record, of-an-end}
 use Rattle.runner.specs.declared.searching.Stepped.{Stepped}
 use Rattle.runner.specs.declared.searching.Stepped.the-variants.{Nowhere, At}
 use Rattle.runner.specs.Runs.{PassedTo, steppedBy, memoryBy}
-use Rattle.runner.proofs.Places.{isSomewhere, no-step}
+use Rattle.runner.proofs.Somewhere.{isSomewhere, no-step}
 
 -- ---- positions that are not worth asking
 

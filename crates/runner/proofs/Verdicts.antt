@@ -19,7 +19,7 @@ use Rattle.rules.proofs.TestLaws.{true-is-not-false}
 use Rattle.runner.specs.declared.searching.Stepped.the-variants.{Nowhere, At}
 use Rattle.runner.specs.declared.verdict.Verdict.the-variants.{Spent, Finished, Stuck}
 use Rattle.runner.specs.Runs.{verdictCode, steppedBy}
-use Rattle.runner.proofs.Places.{isSomewhere, no-step}
+use Rattle.runner.proofs.Somewhere.{isSomewhere, no-step}
 
 -- ---- every record, every end is free
 

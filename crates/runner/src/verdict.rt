@@ -15,7 +15,7 @@ use crate::searching::step_from;
 use registers::Status;
 use rules::RECORD_COUNT;
 use rules::Record;
-use rules::places::STATE_SIZE;
+use rules::offsets::STATE_SIZE;
 
 pub enum Verdict {
     Spent,

@@ -5,4 +5,3 @@ pub mod Standing
 pub mod Waiting
 pub mod Instructions
 pub mod Whole
-pub mod Turns

@@ -18,15 +18,15 @@ ghost use Rattle.soundness.specs.Counts.{slotsInAll, placesInAll, Below,
 use crate::counts::add_one;
 use crate::lasts::Last;
 use crate::lasts::last_of;
+use canonical::counts::wide;
 use canonical::is_free;
-use canonical::places::wide;
 use rules::END_COUNT;
 use rules::RECORD_COUNT;
-use rules::places::FREE_AT;
-use rules::places::RECORD_SIZE;
-use rules::places::RECORDS_AT;
-use rules::places::SLOTS_FROM;
-use rules::places::STACK_FROM;
+use rules::offsets::FREE_AT;
+use rules::offsets::RECORD_SIZE;
+use rules::offsets::RECORDS_AT;
+use rules::offsets::SLOTS_FROM;
+use rules::offsets::STACK_FROM;
 use words::get64;
 
 // A slot that holds an end counts for it.

@@ -9,13 +9,13 @@ ghost use Rattle.rules.specs.SoundTest.{lastWithin};
 ghost use Rattle.rules.specs.Layout.{stateSize, view};
 ghost use Rattle.canonical.specs.Canonical.{endTest};
 ghost use Rattle.soundness.specs.Lasts.{lastMeaning, isItem, lastIn};
-use canonical::places::wide;
+use canonical::counts::wide;
 use rules::End;
 use rules::Record;
-use rules::places::CELL_SIZE;
-use rules::places::COUNTS_AT;
-use rules::places::QUEUE_SIZE;
-use rules::places::QUEUES_AT;
+use rules::offsets::CELL_SIZE;
+use rules::offsets::COUNTS_AT;
+use rules::offsets::QUEUE_SIZE;
+use rules::offsets::QUEUES_AT;
 use words::get64;
 
 pub enum Last {

@@ -6,11 +6,11 @@ ghost use Rattle.rules.specs.Limits.{endCount};
 ghost use Rattle.rules.specs.Bytes.{numberAt};
 ghost use Rattle.rules.specs.SoundTest.{every, pairedTest};
 ghost use Rattle.rules.specs.Layout.{freeSize, freeAt, stateSize, view};
+use canonical::counts::wide;
 use canonical::is_free;
-use canonical::places::wide;
 use rules::END_COUNT;
-use rules::places::FREE_AT;
-use rules::places::PARTNERS_AT;
+use rules::offsets::FREE_AT;
+use rules::offsets::PARTNERS_AT;
 use words::get64;
 
 fn is_paired(m: &[u8], word: u64, e: usize) -> bool

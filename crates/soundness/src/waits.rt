@@ -15,11 +15,11 @@ ghost use Rattle.soundness.specs.Counts.{Below, Added, Counted};
 use crate::counts::add_one;
 use crate::lasts::Last;
 use crate::lasts::last_of;
-use canonical::places::wide;
+use canonical::counts::wide;
 use rules::END_COUNT;
 use rules::RECORD_COUNT;
-use rules::places::RECORD_SIZE;
-use rules::places::RECORDS_AT;
+use rules::offsets::RECORD_SIZE;
+use rules::offsets::RECORDS_AT;
 
 // A wait counts for the record that it names.
 fn count_wait(counts: &mut [u16], last: Last)

@@ -6,6 +6,8 @@ mod reading;
 pub use printing::put_bytes;
 pub use printing::put_decimal;
 pub use printing::put_hex;
+pub use printing::put_letter;
+pub use printing::put_lettered;
 pub use printing::put_signed;
 pub use reading::Number;
 pub use reading::is_hex;

@@ -1,5 +1,6 @@
 // Printing into a lent buffer at a place. Each function answers the place behind what it printed, and leaves all else as it was.
 ghost use mathlib.Core.Path.{_≡_};
+ghost use mathlib.Core.List.{[], _∷_};
 ghost use Prim.Native.Nat.{_+_, _*_, _%_, _≤_, _<_};
 ghost use lib.ListN.{length, drop};
 ghost use Rattle.rules.specs.Text.{decimal, signedDecimal};
@@ -16,6 +17,15 @@ pub fn put_bytes(out: &mut [u8], at: usize, bytes: &[u8]) -> usize
 {
     words::copy(bytes, out, at);
     at + bytes.len()
+}
+
+// One letter.
+pub fn put_letter(out: &mut [u8], at: usize, letter: u8) -> usize
+    requires { ⌜ at + 1 ≤ length (now out) ⌝ }
+    ensures { λ r. ⌜ Written (now (out .entry)) at (letter ∷ []) (now (out .exit)) r ⌝ }
+{
+    out[at] = letter;
+    at + 1
 }
 
 // The last decimal digit of a number.
@@ -52,6 +62,15 @@ pub fn put_decimal(out: &mut [u8], at: usize, n: u64) -> usize
     put_bytes(out, at, &digits[from..])
 }
 
+// A letter and a number.
+pub fn put_lettered(out: &mut [u8], at: usize, letter: u8, n: u64) -> usize
+    requires { ⌜ at + length (letter ∷ decimal n) ≤ length (now out) ⌝ }
+    ensures { λ r. ⌜ Written (now (out .entry)) at (letter ∷ decimal n) (now (out .exit)) r ⌝ }
+{
+    let behind = put_letter(out, at, letter);
+    put_decimal(out, behind, n)
+}
+
 // A signed number in decimal.
 pub fn put_signed(out: &mut [u8], at: usize, n: i32) -> usize
     requires { ⌜ at + length (signedDecimal n) ≤ length (now out) ⌝ }
@@ -59,8 +78,7 @@ pub fn put_signed(out: &mut [u8], at: usize, n: i32) -> usize
 {
     let bits = words::bits(n) as u64;
     if n < 0 {
-        let after = put_bytes(out, at, b"-");
-        return put_decimal(out, after, 4294967296 - bits);
+        return put_lettered(out, at, b'-', 4294967296 - bits);
     }
     put_decimal(out, at, bits)
 }

@@ -38,18 +38,19 @@ bytes-split (suc j) k n low high e h =
     rw (suc-add j k, r) (ap (λ (x : List ℕ). low % 256 ∷ x) (bytes-split j k (n / 256) (low / 256) high q (below j low h)))
 
 -- a number read as two halves
-pub number-halves : (k : ℕ) (m : List ℕ) (at : ℕ) {low high r : ℕ} → low ≡ numberAt k m at → high ≡ numberAt k m (at + k)
-    → r ≡ low + 256 ^ k * high → r ≡ numberAt (k + k) m at
-number-halves k m at p q e = e ∙ rw (p, q) (sym (number-split k k m at))
+pub number-halves : (k : ℕ) (m : List ℕ) (at : ℕ) {low high : ℕ} → low ≡ numberAt k m at → high ≡ numberAt k m (at + k)
+    → low + 256 ^ k * high ≡ numberAt (k + k) m at
+number-halves k m at p q = rw (p, q) (sym (number-split k k m at))
 
 -- a number written as two halves
-pub put-halves : (k : ℕ) (m : List ℕ) (at n : ℕ) {low high : ℕ} {m₁ m₂ : List ℕ} → low ≡ n % 256 ^ k → high ≡ n / 256 ^ k
-    → m₁ ≡ putAt m at (bytesOf k low) → m₂ ≡ putAt m₁ (at + k) (bytesOf k high) → m₂ ≡ putAt m at (bytesOf (k + k) n)
-put-halves k m at n {low} {high} p q e₁ e₂ =
+pub put-halves : (k : ℕ) (m : List ℕ) (at n : ℕ) {m₁ m₂ : List ℕ} → m₁ ≡ putAt m at (bytesOf k (n % 256 ^ k))
+    → m₂ ≡ putAt m₁ (at + k) (bytesOf k (n / 256 ^ k)) → m₂ ≡ putAt m at (bytesOf (k + k) n)
+put-halves k m at n e₁ e₂ =
+    let low = n % 256 ^ k in
+    let high = n / 256 ^ k in
     let pos : 0 < 256 ^ k = one-le-pow k 256 (omega arith) in
-    let l : low < 256 ^ k = rw p (mod-lt n pos) in
-    let s : n ≡ low + 256 ^ k * high = rw (p, q) (sym (mod-add-div n (256 ^ k))) in
-    e₂ ∙ rw (e₁, bytes-split k k n low high s l, put-append m at (bytesOf k low) (bytesOf k high), length-bytes k low)
+    let s : n ≡ low + 256 ^ k * high = sym (mod-add-div n (256 ^ k)) in
+    e₂ ∙ rw (e₁, bytes-split k k n low high s (mod-lt n pos), put-append m at (bytesOf k low) (bytesOf k high), length-bytes k low)
 
 -- one byte
 pub put-byte : (m : List ℕ) (at b : ℕ) → b < 256 → set m at b ≡ putAt m at (bytesOf 1 b)

@@ -9,6 +9,64 @@ use crate::memories::{self, SIZE};
 use crate::methods;
 use crate::random::Random;
 
+/// Lines at the borders of the console's grammar.
+const LINES: [&str; 54] = [
+    "",
+    " ",
+    "#",
+    "# a remark, with words  and spaces ",
+    "#load 00",
+    "##",
+    " # x",
+    "dump #",
+    "R",
+    "R ",
+    " R 0",
+    "R  0",
+    "R 0 ",
+    "R 0 0",
+    "r 0",
+    "R +0",
+    "R -1",
+    "R 0x1",
+    "R 007",
+    "R 31",
+    "R 32",
+    "R 4294967295",
+    "R 4294967296",
+    "E",
+    "E 63",
+    "E 64",
+    "E 4294967295",
+    "E 99999999999999999999",
+    "run",
+    "run 1",
+    "run 0 0",
+    "run 65535 95",
+    "run 65536 0",
+    "run 1 96",
+    "run 00000001 000",
+    "run 1 4294967295",
+    "run 1 4294967296",
+    "run -1 0",
+    "free 1",
+    "FREE",
+    "dump ",
+    "peek 16902 0",
+    "peek 16902 1",
+    "peek 16901 2",
+    "peek 4294967295 4294967295",
+    "peek 0 0",
+    "poke 0",
+    "poke 16902 00",
+    "poke 0 0",
+    "poke 0 0g",
+    "write 3G",
+    "load 0",
+    "load zz",
+    "help\t1",
+];
+
 /// A script, and images that go with it.
 pub struct Script {
     /// The image of the first load.
@@ -159,73 +217,26 @@ impl Script {
         }
     }
 
-    /// Lines at the borders of the console's grammar.
+    /// Lines that are nearly understood, and such as are just so.
     fn words(&mut self, random: &mut Random) {
-        const LINES: [&str; 48] = [
-            "",
-            " ",
-            "R",
-            "R ",
-            " R 0",
-            "R  0",
-            "R 0 ",
-            "R 0 0",
-            "r 0",
-            "R +0",
-            "R -1",
-            "R 0x1",
-            "R 007",
-            "R 31",
-            "R 32",
-            "R 4294967295",
-            "R 4294967296",
-            "E",
-            "E 63",
-            "E 64",
-            "E 4294967295",
-            "E 99999999999999999999",
-            "run",
-            "run 1",
-            "run 0 0",
-            "run 65535 95",
-            "run 65536 0",
-            "run 1 96",
-            "run 00000001 000",
-            "run 1 4294967295",
-            "run 1 4294967296",
-            "run -1 0",
-            "free 1",
-            "FREE",
-            "dump ",
-            "peek 16902 0",
-            "peek 16902 1",
-            "peek 16901 2",
-            "peek 4294967295 4294967295",
-            "peek 0 0",
-            "poke 0",
-            "poke 16902 00",
-            "poke 0 0",
-            "poke 0 0g",
-            "write 3G",
-            "load 0",
-            "load zz",
-            "help\t1",
-        ];
         for _ in 0..random.between(5, 30) {
             match random.below(8) {
                 0 => self.ask(random),
                 1 => self.poke(SIZE - random.between(0, 2), &[0, 0]),
-                2 if random.one_in(4) => {
-                    let length = random.pick(&[39_999, 40_000, 40_001, 40_002, 50_000]);
-                    let text = format!("R {}", "0".repeat(length));
-                    self.line(&text[..length]);
-                }
+                2 if random.one_in(4) => self.long_line(random),
                 2 if random.one_in(3) => self.line("x".repeat(random.between(39_998, 41_000))),
                 3 => self.line(format!("write {}", hex(&[random.byte(), 0xAB]).to_uppercase())),
                 4 => self.look(random),
                 _ => self.line(random.pick(&LINES)),
             }
         }
+    }
+
+    /// An ask or a remark as long as a line may be, or a little shorter or longer.
+    fn long_line(&mut self, random: &mut Random) {
+        let length = random.pick(&[39_999, 40_000, 40_001, 40_002, 50_000]);
+        let text = random.pick(&["R ", "# ", "#"]).to_string() + &"0".repeat(length);
+        self.line(&text[..length]);
     }
 
     /// Shows the state in words and every byte of the memory.

@@ -75,6 +75,11 @@ impl Command {
     }
 }
 
+/// A line for whoever reads a script: it is answered with itself, and does nothing.
+fn is_remark(line: &[u8]) -> bool {
+    line.len() <= LINE && line.starts_with(b"#")
+}
+
 /// The number that a word means: decimal digits, at most 4,294,967,295.
 fn number(word: &[u8]) -> Option<u32> {
     if word.is_empty() {
@@ -122,6 +127,9 @@ impl Console {
 
     /// The same answer, all that the command did shown to `watch`.
     pub fn answer_watched(&mut self, line: &[u8], mut watch: impl FnMut(Event)) -> Vec<u8> {
+        if is_remark(line) {
+            return [line, b"\n"].concat();
+        }
         match Command::of(line) {
             Some(command) => {
                 let answer = self.obey(command, &mut watch).unwrap_or_else(|(words, refusal)| {

@@ -342,6 +342,20 @@ fn not_understood() {
 }
 
 #[test]
+fn remarks() {
+    for line in ["#", "##", "# ", "# a case", "#load 00", "#\tx\r", "# \u{e9}"] {
+        assert_eq!(answers(line.as_bytes()), format!("{line}\n").as_bytes(), "{line:?}");
+    }
+    assert_eq!(answers(b"#\xFF\0\nfree"), b"#\xFF\0\nfree: 64 0\n");
+    assert_eq!(answers(b" # x"), b"? \n");
+    assert_eq!(answers(b"free #"), b"? free\n");
+    let remark = |length: usize| format!("# {}", "x".repeat(length - 2));
+    assert_eq!(answers(remark(LINE).as_bytes()), format!("{}\n", remark(LINE)).as_bytes());
+    assert_eq!(answers(format!("{}\nfree", remark(LINE + 1)).as_bytes()), b"? #\nfree: 64 0\n");
+    assert_eq!(answers("#".repeat(LINE + 1).as_bytes()), format!("? {}\n", "#".repeat(LINE)).as_bytes());
+}
+
+#[test]
 fn lines() {
     assert_eq!(answers(b""), b"");
     assert_eq!(answers(b"\n"), b"? \n");
@@ -369,8 +383,8 @@ fn long_lines() {
 fn lines_at_random_are_answered() {
     let mut random = Random::new(5);
     let words = [
-        "load", "write", "R", "E", "run", "free", "dump", "peek", "poke", "0", "1", "31", "8158", "12670", "12742", "ff", "00",
-        "05", "",
+        "load", "write", "R", "E", "run", "free", "dump", "peek", "poke", "#", "0", "1", "31", "8158", "12670", "12742", "ff",
+        "00", "05", "",
     ];
     let mut script = Vec::new();
     for _ in 0..3_000 {

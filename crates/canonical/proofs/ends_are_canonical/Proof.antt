@@ -1,18 +1,17 @@
 -- `ends_are_canonical` looks at one end after the other. The invariant: the first e pass. Assumes nothing.
-use mathlib.Core.Path.{_≡_, sym, ap, _∙_}
+use mathlib.Core.Path.{_≡_, ap, _∙_}
 use mathlib.Core.Bool.{Bool, true}
 use mathlib.Core.List.{List}
 use Prim.Native.Nat.{ℕ, _+_, _-_, _*_, _≤_}
 use native.Mathlib.Omega.{arith}
 use lib.ListN.{getD}
-use borrow.Author.Tests.{not-true, not-false}
 use Rattle.rules.specs.Limits.{endCount}
 use Rattle.rules.specs.Bytes.{numberAt}
 use Rattle.rules.specs.Slots.{inSet}
 use Rattle.rules.specs.SoundTest.{every}
 use Rattle.rules.specs.Layout.{freeSize, queueSize, freeAt, partnersAt, countsAt, queuesAt}
 use Rattle.canonical.specs.Canonical.{part, canonicalEnd, endTest}
-use Rattle.canonical.proofs.Tests.{every-none, every-more, every-fails, reached}
+use Rattle.canonical.proofs.Tests.{every-none, turn-fails, turn-passes, reached}
 use Rattle.canonical.proofs.Bytes.{part-is}
 use borrow.Author.Needs.{needs}
 use Rattle.canonical.proofs.ends_are_canonical.Statement.{statement}
@@ -87,8 +86,7 @@ returns c =
     let m = at-get64 .before .before .args .m .now in
     let e = at-loop .loop .e in
     let answer = tested m e (at-get64 .get64 .ensures) (at-is-free .is-free .ensures) (at-end .end-is-canonical .ensures) in
-    let failed = sym answer ∙ not-true (at-end .end-is-canonical .result) (c .if1 .taken) in
-    sym (every-fails (endTest m) endCount e (omega arith) failed)
+    turn-fails (endTest m) e answer endCount (omega arith) (c .if1 .taken)
 
 add-e : tie.Need-add-e Inv-loop μ-loop
 add-e c = search needs
@@ -105,8 +103,7 @@ loop-again c =
     let m = at-get64 .before .before .args .m .now in
     let e = at-loop .loop .e in
     let answer = tested m e (at-get64 .get64 .ensures) (at-is-free .is-free .ensures) (at-end .end-is-canonical .ensures) in
-    let passed = sym answer ∙ not-false (at-end .end-is-canonical .result) (c .if1 .left) in
-    (omega arith, every-more (endTest m) e (at-loop .loop .inv .1) passed)
+    (omega arith, turn-passes (endTest m) e answer (at-loop .loop .inv .1) (c .if1 .left))
 
 returns-2 : tie.Need-returns-2 Inv-loop μ-loop
 returns-2 c =

@@ -1,15 +1,14 @@
 -- `records_are_canonical` looks at one record after the other. The invariant: the first i pass. Assumes nothing.
-use mathlib.Core.Path.{_≡_, sym, ap, _∙_}
+use mathlib.Core.Path.{_≡_, ap, _∙_}
 use mathlib.Core.Bool.{Bool, true}
 use mathlib.Core.List.{List}
 use Prim.Native.Nat.{ℕ, _+_, _-_, _*_, _≤_}
 use native.Mathlib.Omega.{arith}
-use borrow.Author.Tests.{not-true, not-false}
 use Rattle.rules.specs.Limits.{recordCount}
 use Rattle.rules.specs.SoundTest.{every}
 use Rattle.rules.specs.Layout.{recordsAt, recordSize}
 use Rattle.canonical.specs.Canonical.{part, canonicalRecord, recordTest}
-use Rattle.canonical.proofs.Tests.{every-none, every-more, every-fails, reached}
+use Rattle.canonical.proofs.Tests.{every-none, turn-fails, turn-passes, reached}
 use Rattle.canonical.proofs.Bytes.{part-is}
 use borrow.Author.Needs.{needs}
 use Rattle.canonical.proofs.records_are_canonical.Statement.{statement}
@@ -57,9 +56,7 @@ returns c =
     let at-loop = at-record .before .before .before in
     let m = at-loop .before .before .args .m .now in
     let i = at-loop .loop .i in
-    let failed = sym (tested m i (at-record .record-is-canonical .ensures))
-    ∙ not-true (at-record .record-is-canonical .result) (c .if1 .taken) in
-    sym (every-fails (recordTest m) recordCount i (omega arith) failed)
+    turn-fails (recordTest m) i (tested m i (at-record .record-is-canonical .ensures)) recordCount (omega arith) (c .if1 .taken)
 
 add-i : tie.Need-add-i Inv-loop μ-loop
 add-i c = search needs
@@ -73,9 +70,8 @@ loop-again c =
     let at-loop = at-record .before .before .before in
     let m = at-loop .before .before .args .m .now in
     let i = at-loop .loop .i in
-    let passed = sym (tested m i (at-record .record-is-canonical .ensures))
-    ∙ not-false (at-record .record-is-canonical .result) (c .if1 .left) in
-    (omega arith, every-more (recordTest m) i (at-loop .loop .inv .1) passed)
+    let answer = tested m i (at-record .record-is-canonical .ensures) in
+    (omega arith, turn-passes (recordTest m) i answer (at-loop .loop .inv .1) (c .if1 .left))
 
 returns-2 : tie.Need-returns-2 Inv-loop μ-loop
 returns-2 c =

@@ -10,38 +10,38 @@ use Rattle.commands.proofs.full.Tie as tie
 enum-told : tie.Need-enum-told
 enum-told c = search needs
 
-load-requires : tie.Need-load-requires
-load-requires c κs = search needs
+with-bytes-requires : tie.Need-with-bytes-requires
+with-bytes-requires c κs = search needs
 
 enum-told-2 : tie.Need-enum-told-2
 enum-told-2 c = search needs
 
-write-requires : tie.Need-write-requires
-write-requires c κs = search needs
+with-bytes-requires-2 : tie.Need-with-bytes-requires-2
+with-bytes-requires-2 c κs = search needs
 
 enum-told-3 : tie.Need-enum-told-3
 enum-told-3 c = search needs
 
-record-requires : tie.Need-record-requires
-record-requires c κs = search needs
+with-number-requires : tie.Need-with-number-requires
+with-number-requires c κs = search needs
 
 enum-told-4 : tie.Need-enum-told-4
 enum-told-4 c = search needs
 
-end-requires : tie.Need-end-requires
-end-requires c κs = search needs
+with-number-requires-2 : tie.Need-with-number-requires-2
+with-number-requires-2 c κs = search needs
 
 enum-told-5 : tie.Need-enum-told-5
 enum-told-5 c = search needs
 
-run-requires : tie.Need-run-requires
-run-requires c κs = search needs
+with-numbers-requires : tie.Need-with-numbers-requires
+with-numbers-requires c κs = search needs
 
 enum-told-6 : tie.Need-enum-told-6
 enum-told-6 c = search needs
 
-peek-requires : tie.Need-peek-requires
-peek-requires c κs = search needs
+with-numbers-requires-2 : tie.Need-with-numbers-requires-2
+with-numbers-requires-2 c κs = search needs
 
 enum-told-7 : tie.Need-enum-told-7
 enum-told-7 c = search needs
@@ -58,11 +58,11 @@ same-length c = search needs
 returns : tie.Need-returns
 unfolding fullAsked
 returns c =
-    let at-load = c .before .before in
-    let at-told = at-load .before .before in
+    let at-bytes = c .before .before in
+    let at-told = at-bytes .before .before in
     let words = at-told .before .before .before .before .args .words .now in
     let e = ap (λ (n : Name). fullAsked n words) (sym (at-told .enum-told .given .1)) in
-    (at-load .load .ensures .0 ∙ e, at-load .load .ensures .1)
+    (at-bytes .with-bytes .ensures .0 ∙ e, at-bytes .with-bytes .ensures .1)
 
 same-length-2 : tie.Need-same-length-2
 same-length-2 c = search needs
@@ -70,11 +70,11 @@ same-length-2 c = search needs
 returns-2 : tie.Need-returns-2
 unfolding fullAsked
 returns-2 c =
-    let at-write = c .before .before in
-    let at-told = at-write .before .before in
+    let at-bytes = c .before .before in
+    let at-told = at-bytes .before .before in
     let words = at-told .before .before .before .before .args .words .now in
     let e = ap (λ (n : Name). fullAsked n words) (sym (at-told .enum-told2 .given .1)) in
-    (at-write .write .ensures .0 ∙ e, at-write .write .ensures .1)
+    (at-bytes .with-bytes2 .ensures .0 ∙ e, at-bytes .with-bytes2 .ensures .1)
 
 returns-3 : tie.Need-returns-3
 unfolding fullAsked
@@ -82,8 +82,8 @@ returns-3 c =
     let at-told = c .before in
     let a = at-told .before .before .before .before .args in
     let e = ap (λ (n : Name). fullAsked n (a .words .now)) (sym (at-told .enum-told3 .given .1)) in
-    let none = c .record .ensures .1 in
-    (c .record .ensures .0 (a .bytes .now) ∙ e, omega arith)
+    let none = c .with-number .ensures .1 in
+    (c .with-number .ensures .0 (a .bytes .now) ∙ e, omega arith)
 
 returns-4 : tie.Need-returns-4
 unfolding fullAsked
@@ -91,8 +91,8 @@ returns-4 c =
     let at-told = c .before in
     let a = at-told .before .before .before .before .args in
     let e = ap (λ (n : Name). fullAsked n (a .words .now)) (sym (at-told .enum-told4 .given .1)) in
-    let none = c .end .ensures .1 in
-    (c .end .ensures .0 (a .bytes .now) ∙ e, omega arith)
+    let none = c .with-number2 .ensures .1 in
+    (c .with-number2 .ensures .0 (a .bytes .now) ∙ e, omega arith)
 
 returns-5 : tie.Need-returns-5
 unfolding fullAsked
@@ -100,8 +100,8 @@ returns-5 c =
     let at-told = c .before in
     let a = at-told .before .before .before .before .args in
     let e = ap (λ (n : Name). fullAsked n (a .words .now)) (sym (at-told .enum-told5 .given .1)) in
-    let none = c .run .ensures .1 in
-    (c .run .ensures .0 (a .bytes .now) ∙ e, omega arith)
+    let none = c .with-numbers .ensures .1 in
+    (c .with-numbers .ensures .0 (a .bytes .now) ∙ e, omega arith)
 
 returns-6 : tie.Need-returns-6
 unfolding fullAsked
@@ -109,8 +109,8 @@ returns-6 c =
     let at-told = c .before in
     let a = at-told .before .before .before .before .args in
     let e = ap (λ (n : Name). fullAsked n (a .words .now)) (sym (at-told .enum-told6 .given .1)) in
-    let none = c .peek .ensures .1 in
-    (c .peek .ensures .0 (a .bytes .now) ∙ e, omega arith)
+    let none = c .with-numbers2 .ensures .1 in
+    (c .with-numbers2 .ensures .0 (a .bytes .now) ∙ e, omega arith)
 
 same-length-3 : tie.Need-same-length-3
 same-length-3 c = search needs
@@ -135,17 +135,17 @@ full-spec =
     tie.close
     (tie.spec
     enum-told
-    load-requires
+    with-bytes-requires
     enum-told-2
-    write-requires
+    with-bytes-requires-2
     enum-told-3
-    record-requires
+    with-number-requires
     enum-told-4
-    end-requires
+    with-number-requires-2
     enum-told-5
-    run-requires
+    with-numbers-requires
     enum-told-6
-    peek-requires
+    with-numbers-requires-2
     enum-told-7
     poke-requires
     enum-told-8

@@ -9,12 +9,9 @@ use borrow.Author.Needs.{needs}
 use Rattle.dump.proofs.put_bytes_of.Statement.{statement}
 use Rattle.dump.proofs.put_bytes_of.Tie as tie
 
-slice-aggregate-put-bytes : tie.Need-slice-aggregate-put-bytes
-slice-aggregate-put-bytes c = search needs
-
-put-bytes-requires : tie.Need-put-bytes-requires
-put-bytes-requires c κs =
-    let at-if = c .before .before in
+put-letter-requires : tie.Need-put-letter-requires
+put-letter-requires c κs =
+    let at-if = c .before in
     let at-start = at-if .before .before .before in
     let a = at-start .args in
     room-as (a .at) _ _ (a .out .now) (no-code (a .code .now) (at-if .if1 .taken)) (at-start .pre)
@@ -25,8 +22,8 @@ same-length c = search needs
 returns : tie.Need-returns
 returns c =
     let at-put = c .before .before in
-    let at-if = at-put .before .before .before in
-    written-as (no-code (at-if .before .before .before .args .code .now) (at-if .if1 .taken)) (at-put .put-bytes .ensures)
+    let at-if = at-put .before .before in
+    written-as (no-code (at-if .before .before .before .args .code .now) (at-if .if1 .taken)) (at-put .put-letter .ensures)
 
 put-hex-requires : tie.Need-put-hex-requires
 put-hex-requires c κs =
@@ -48,8 +45,7 @@ pub put-bytes-of-spec : {M : Type 1} → statement M
 put-bytes-of-spec =
     tie.close
     (tie.spec
-    slice-aggregate-put-bytes
-    put-bytes-requires
+    put-letter-requires
     same-length
     returns
     put-hex-requires

@@ -41,12 +41,9 @@ put-bytes-of-requires c κs =
     let put = at-word .put-bytes in
     room-as (put .result) _ code (put .last .0) (ap codeText (c .code .ensures)) (room-rest code (two at-start) (put .ensures))
 
-slice-aggregate-put-bytes-2 : tie.Need-slice-aggregate-put-bytes-2
-slice-aggregate-put-bytes-2 c = search needs
-
-put-bytes-requires-2 : tie.Need-put-bytes-requires-2
-put-bytes-requires-2 c κs =
-    let at-bytes = c .before .before .before .before in
+put-letter-requires : tie.Need-put-letter-requires
+put-letter-requires c κs =
+    let at-bytes = c .before .before .before in
     let at-code = at-bytes .before in
     let at-word = at-code .before .before .before .before in
     let code = written-as (ap codeText (at-code .code .ensures)) (at-bytes .put-bytes-of .ensures) in
@@ -59,11 +56,11 @@ returns : tie.Need-returns
 unfolding text
 returns c =
     let at-end = c .before .before in
-    let at-bytes = at-end .before .before .before .before .before in
+    let at-bytes = at-end .before .before .before .before in
     let at-code = at-bytes .before in
     let at-word = at-code .before .before .before .before in
     let code = written-as (ap codeText (at-code .code .ensures)) (at-bytes .put-bytes-of .ensures) in
-    written-more (written-more (at-word .put-bytes .ensures) code) (at-end .put-bytes2 .ensures)
+    written-more (written-more (at-word .put-bytes .ensures) code) (at-end .put-letter .ensures)
 
 pub put-code-spec : {M : Type 1} → statement M
 put-code-spec =
@@ -73,7 +70,6 @@ put-code-spec =
     put-bytes-requires
     code-requires
     put-bytes-of-requires
-    slice-aggregate-put-bytes-2
-    put-bytes-requires-2
+    put-letter-requires
     same-length
     returns)

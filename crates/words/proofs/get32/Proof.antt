@@ -7,21 +7,30 @@ use Rattle.words.proofs.get32.Tie as tie
 get16-requires : tie.Need-get16-requires
 get16-requires c κs = search needs
 
+cast-result : tie.Need-cast-result
+cast-result c = search needs
+
 add-get16 : tie.Need-add-get16
 add-get16 c = search needs
 
 get16-requires-2 : tie.Need-get16-requires-2
 get16-requires-2 c κs = search needs
 
-join32-requires : tie.Need-join32-requires
-join32-requires c κs = search needs
+cast-result-2 : tie.Need-cast-result-2
+cast-result-2 c = search needs
+
+mul-result : tie.Need-mul-result
+mul-result c = search needs
+
+add-result : tie.Need-add-result
+add-result c = search needs
 
 returns : tie.Need-returns
 returns c =
-    let at-get162 = c .before in
-    let at-get16 = at-get162 .before in
-    let a = at-get16 .before .before .args in
-    number-halves 2 (a .m .now) (a .at) (at-get16 .get16 .ensures) (at-get162 .get162 .ensures) (c .join32 .ensures)
+    let a = c .before .before .before .args in
+    number-halves 2 (a .m .now) (a .at) (c .before .get16 .ensures) (c .get162 .ensures)
 
 pub get32-spec : {M : Type 1} → statement M
-get32-spec = tie.close (tie.spec get16-requires add-get16 get16-requires-2 join32-requires returns)
+get32-spec =
+    tie.close
+    (tie.spec get16-requires cast-result add-get16 get16-requires-2 cast-result-2 mul-result add-result returns)

@@ -1,13 +1,14 @@
 -- `put16` is two bytes: the law of halves at one byte. Assumes nothing.
-use mathlib.Core.Path.{_∙_}
-use Prim.Native.Nat.{_+_, _<_}
 use borrow.Author.Needs.{needs}
+use mathlib.Core.Path.{_∙_}
+use Prim.Native.Nat.{_+_, _/_, _%_}
+use native.Mathlib.Omega.{arith}
 use Rattle.words.proofs.Numbers.{put-halves, put-byte}
 use Rattle.words.proofs.put16.Statement.{statement}
 use Rattle.words.proofs.put16.Tie as tie
 
-low16-requires : tie.Need-low16-requires
-low16-requires c κs = search needs
+cast-put8 : tie.Need-cast-put8
+cast-put8 c = search needs
 
 put8-requires : tie.Need-put8-requires
 put8-requires c κs = search needs
@@ -15,8 +16,8 @@ put8-requires c κs = search needs
 add-put8 : tie.Need-add-put8
 add-put8 c = search needs
 
-high16-requires : tie.Need-high16-requires
-high16-requires c κs = search needs
+cast-put8-2 : tie.Need-cast-put8-2
+cast-put8-2 c = search needs
 
 put8-requires-2 : tie.Need-put8-requires-2
 put8-requires-2 c κs = search needs
@@ -26,25 +27,15 @@ same-length c = search needs
 
 returns : tie.Need-returns
 returns c =
-    let at-put82 = c .before .before in
-    let at-high16 = at-put82 .before in
-    let at-put8 = at-high16 .before .before .before .before in
-    let at-low16 = at-put8 .before in
-    let a = at-low16 .before .before .before .args in
-    let low : at-low16 .low16 .result < 256 = search needs in
-    let high : at-high16 .high16 .result < 256 = search needs in
-    put-halves 1 (a .m .now) (a .at) (a .n) (at-low16 .low16 .ensures) (at-high16 .high16 .ensures)
-    (at-put8 .put8 .ensures ∙ put-byte (a .m .now) (a .at) (at-low16 .low16 .result) low)
-    (at-put82 .put82 .ensures ∙ put-byte (at-put8 .put8 .last .0) (a .at + 1) (at-high16 .high16 .result) high)
+    let at-high = c .before .before in
+    let at-low = at-high .before .before .before .before in
+    let at-start = at-low .before .before .before in
+    let a = at-start .args in
+    let small = at-start .fits .n in
+    put-halves 1 (a .m .now) (a .at) (a .n)
+    (at-low .put8 .ensures ∙ put-byte (a .m .now) (a .at) (a .n % 256) (omega arith))
+    (at-high .put82 .ensures ∙ put-byte (at-low .put8 .last .0) (a .at + 1) (a .n / 256) (omega arith))
 
 pub put16-spec : {M : Type 1} → statement M
 put16-spec =
-    tie.close
-    (tie.spec
-    low16-requires
-    put8-requires
-    add-put8
-    high16-requires
-    put8-requires-2
-    same-length
-    returns)
+    tie.close (tie.spec cast-put8 put8-requires add-put8 cast-put8-2 put8-requires-2 same-length returns)

@@ -1,10 +1,11 @@
 -- `put16_high` is two bytes, one after the other. Assumes nothing.
 use borrow.Author.Needs.{needs}
+use mathlib.Core.Path.{_∙_}
 use Rattle.words.proofs.put16_high.Statement.{statement}
 use Rattle.words.proofs.put16_high.Tie as tie
 
-high16-requires : tie.Need-high16-requires
-high16-requires c κs = search needs
+cast-put8 : tie.Need-cast-put8
+cast-put8 c = search needs
 
 put8-requires : tie.Need-put8-requires
 put8-requires c κs = search needs
@@ -12,8 +13,8 @@ put8-requires c κs = search needs
 add-put8 : tie.Need-add-put8
 add-put8 c = search needs
 
-low16-requires : tie.Need-low16-requires
-low16-requires c κs = search needs
+cast-put8-2 : tie.Need-cast-put8-2
+cast-put8-2 c = search needs
 
 put8-requires-2 : tie.Need-put8-requires-2
 put8-requires-2 c κs = search needs
@@ -22,16 +23,11 @@ same-length : tie.Need-same-length
 same-length c = search needs
 
 returns : tie.Need-returns
-returns c = cc
+returns c =
+    let at-high = c .before .before in
+    let at-low = at-high .before .before .before .before in
+    at-high .put82 .ensures ∙ rw (at-low .put8 .ensures)
 
 pub put16-high-spec : {M : Type 1} → statement M
 put16-high-spec =
-    tie.close
-    (tie.spec
-    high16-requires
-    put8-requires
-    add-put8
-    low16-requires
-    put8-requires-2
-    same-length
-    returns)
+    tie.close (tie.spec cast-put8 put8-requires add-put8 cast-put8-2 put8-requires-2 same-length returns)

@@ -4,8 +4,8 @@ use Rattle.words.proofs.Numbers.{put-halves}
 use Rattle.words.proofs.put32.Statement.{statement}
 use Rattle.words.proofs.put32.Tie as tie
 
-low32-requires : tie.Need-low32-requires
-low32-requires c κs = search needs
+cast-put16 : tie.Need-cast-put16
+cast-put16 c = search needs
 
 put16-requires : tie.Need-put16-requires
 put16-requires c κs = search needs
@@ -13,8 +13,8 @@ put16-requires c κs = search needs
 add-put16 : tie.Need-add-put16
 add-put16 c = search needs
 
-high32-requires : tie.Need-high32-requires
-high32-requires c κs = search needs
+cast-put16-2 : tie.Need-cast-put16-2
+cast-put16-2 c = search needs
 
 put16-requires-2 : tie.Need-put16-requires-2
 put16-requires-2 c κs = search needs
@@ -24,22 +24,11 @@ same-length c = search needs
 
 returns : tie.Need-returns
 returns c =
-    let at-put162 = c .before .before in
-    let at-high = at-put162 .before in
-    let at-put16 = at-high .before .before .before .before in
-    let at-low = at-put16 .before in
+    let at-high = c .before .before in
+    let at-low = at-high .before .before .before .before in
     let a = at-low .before .before .before .args in
-    put-halves 2 (a .m .now) (a .at) (a .n) (at-low .low32 .ensures) (at-high .high32 .ensures)
-    (at-put16 .put16 .ensures) (at-put162 .put162 .ensures)
+    put-halves 2 (a .m .now) (a .at) (a .n) (at-low .put16 .ensures) (at-high .put162 .ensures)
 
 pub put32-spec : {M : Type 1} → statement M
 put32-spec =
-    tie.close
-    (tie.spec
-    low32-requires
-    put16-requires
-    add-put16
-    high32-requires
-    put16-requires-2
-    same-length
-    returns)
+    tie.close (tie.spec cast-put16 put16-requires add-put16 cast-put16-2 put16-requires-2 same-length returns)

@@ -6,7 +6,7 @@ use borrow.Author.Needs.{needs}
 use Rattle.rules.specs.Text.{text}
 use Rattle.text.proofs.Texts.{written-as}
 use Rattle.machine.specs.Answers.{freeAnswer}
-use Rattle.answers.specs.Answers.{freeEndsText, freeText}
+use Rattle.answers.specs.Answers.{freeEndsText, freeAnswered}
 use Rattle.answers.proofs.requests.free.Statement.{statement}
 use Rattle.answers.proofs.requests.free.Tie as tie
 
@@ -17,7 +17,7 @@ enum-known-count : tie.Need-enum-known-count
 enum-known-count c = search needs
 
 put-counted-requires : tie.Need-put-counted-requires
-unfolding freeText
+unfolding freeAnswered
 put-counted-requires c κs =
     let at-count = c .before .before in
     let at-free = at-count .before .before in
@@ -35,7 +35,7 @@ cast-put-number-line : tie.Need-cast-put-number-line
 cast-put-number-line c = search needs
 
 put-number-line-requires : tie.Need-put-number-line-requires
-unfolding freeText text
+unfolding freeAnswered text
 put-number-line-requires c κs =
     let at-n = c .before .before .before in
     let at-free = at-n .before .before in
@@ -47,7 +47,7 @@ same-length : tie.Need-same-length
 same-length c = search needs
 
 returns : tie.Need-returns
-unfolding freeText
+unfolding freeAnswered
 returns c =
     let at-put = c .before .before in
     let at-count = at-put .before .before .before in
@@ -59,7 +59,7 @@ same-length-2 : tie.Need-same-length-2
 same-length-2 c = search needs
 
 returns-2 : tie.Need-returns-2
-unfolding freeText text
+unfolding freeAnswered text
 returns-2 c =
     let at-put = c .before .before in
     let at-n = at-put .before .before .before .before in

@@ -1,5 +1,4 @@
 -- The blocks, counted. Assumes nothing.
-use native.Mathlib.Omega.{arith}
 use borrow.Author.Needs.{needs}
 use Rattle.rules.specs.Image.{blockCount}
 use Rattle.answers.proofs.requests.image_size.Statement.{statement}

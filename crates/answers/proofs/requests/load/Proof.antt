@@ -9,7 +9,7 @@ use Rattle.rules.specs.Numbers.{replyNumber}
 use Rattle.rules.specs.Text.{text}
 use Rattle.rules.proofs.Promises.{reply-number}
 use Rattle.text.proofs.Texts.{written-as}
-use Rattle.answers.specs.Answers.{numberLine, loadText}
+use Rattle.answers.specs.Answers.{numberLine, loadAnswered}
 use Rattle.answers.proofs.requests.load.Statement.{statement}
 use Rattle.answers.proofs.requests.load.Tie as tie
 
@@ -34,7 +34,7 @@ number c =
     c .number-of .ensures ∙ ap replyNumber reply ∙ reply-number (loadAnswer (a .state .now) (a .image .now))
 
 put-number-line-requires : tie.Need-put-number-line-requires
-unfolding loadText text
+unfolding loadAnswered text
 put-number-line-requires c κs =
     let at-start = c .before .before .before .before .before .before .before .before .before .before in
     let e = ap (λ (k : ℕ). length (numberLine (text "load ") k)) (number c) in
@@ -47,7 +47,7 @@ same-length-2 : tie.Need-same-length-2
 same-length-2 c = search needs
 
 returns : tie.Need-returns
-unfolding loadText text
+unfolding loadAnswered text
 returns c =
     let at-line = c .before .before in
     let at-number = at-line .before in

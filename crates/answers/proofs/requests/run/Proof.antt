@@ -6,7 +6,7 @@ use borrow.Author.Needs.{needs}
 use Rattle.rules.specs.Calls.{runAnswer}
 use Rattle.rules.specs.Text.{text}
 use Rattle.text.proofs.Texts.{written-as}
-use Rattle.answers.specs.Answers.{runText}
+use Rattle.answers.specs.Answers.{runAnswered}
 use Rattle.answers.proofs.Cases.{run-text}
 use Rattle.answers.proofs.requests.run.Statement.{statement}
 use Rattle.answers.proofs.requests.run.Tie as tie
@@ -18,7 +18,7 @@ enum-known-steps : tie.Need-enum-known-steps
 enum-known-steps c = search needs
 
 put-made-requires : tie.Need-put-made-requires
-unfolding runText
+unfolding runAnswered
 put-made-requires c κs =
     let at-made = c .before .before in
     let at-run = at-made .before .before .before .before in
@@ -37,7 +37,7 @@ cast-put-number-line : tie.Need-cast-put-number-line
 cast-put-number-line c = search needs
 
 put-number-line-requires : tie.Need-put-number-line-requires
-unfolding runText text
+unfolding runAnswered text
 put-number-line-requires c κs =
     let at-n = c .before .before .before in
     let at-run = at-n .before .before .before .before in
@@ -53,7 +53,7 @@ same-length-2 : tie.Need-same-length-2
 same-length-2 c = search needs
 
 returns : tie.Need-returns
-unfolding runText
+unfolding runAnswered
 returns c =
     let at-put = c .before .before in
     let at-made = at-put .before .before .before in
@@ -70,7 +70,7 @@ same-length-4 : tie.Need-same-length-4
 same-length-4 c = search needs
 
 returns-2 : tie.Need-returns-2
-unfolding runText text
+unfolding runAnswered text
 returns-2 c =
     let at-put = c .before .before in
     let at-n = at-put .before .before .before .before in

@@ -1,15 +1,13 @@
 -- The reply's number, and the memory that `machine` leaves. Assumes nothing.
-use mathlib.Core.Path.{_≡_, ap, _∙_}
-use Prim.Native.Nat.{ℕ}
+use mathlib.Core.Path.{ap}
 use native.Mathlib.Omega.{arith}
 use lib.ListN.{length}
 use borrow.Author.Needs.{needs}
 use Rattle.rules.specs.Calls.{callEnd, endAnswer}
-use Rattle.rules.specs.Numbers.{replyNumber}
 use Rattle.rules.specs.Text.{text}
-use Rattle.rules.proofs.Promises.{reply-number}
 use Rattle.text.proofs.Texts.{written-as}
-use Rattle.answers.specs.Answers.{stepText, endText}
+use Rattle.answers.specs.Answers.{endAnswered}
+use Rattle.answers.proofs.Cases.{step-replied}
 use Rattle.answers.proofs.requests.step_end.Statement.{statement}
 use Rattle.answers.proofs.requests.step_end.Tie as tie
 
@@ -19,22 +17,14 @@ ask-end-requires c κs = search needs
 slice-aggregate-put-step : tie.Need-slice-aggregate-put-step
 slice-aggregate-put-step c = search needs
 
--- the number that is printed
-number : (c : tie.After-ask-end)
-    → let a = c .before .before .before .before .args in
-    replyNumber (c .ask-end .result) ≡ callEnd (a .state .now) (a .n) .number
-unfolding callEnd
-number c =
-    let a = c .before .before .before .before .args in
-    ap replyNumber (c .ask-end .ensures .answer-is) ∙ reply-number (endAnswer (a .state .now) (a .n))
-
 put-step-requires : tie.Need-put-step-requires
-unfolding endText text
+unfolding endAnswered callEnd text
 put-step-requires c κs =
     let at-ask = c .before .before .before .before in
     let at-start = at-ask .before .before .before .before in
-    let e = ap (λ (k : ℕ). length (stepText (text "E ") (at-start .args .n) k)) (number at-ask) in
-    omega (arith, e, at-start .pre)
+    let a = at-start .args in
+    let e = step-replied (text "E ") (a .n) (endAnswer (a .state .now) (a .n)) (at-ask .ask-end .ensures .answer-is) in
+    omega (arith, ap length e, at-start .pre)
 
 same-length : tie.Need-same-length
 same-length c = search needs
@@ -43,12 +33,12 @@ same-length-2 : tie.Need-same-length-2
 same-length-2 c = search needs
 
 returns : tie.Need-returns
-unfolding endText text
+unfolding endAnswered callEnd text
 returns c =
     let at-step = c .before .before in
     let at-ask = at-step .before .before .before .before .before in
-    let n = at-ask .before .before .before .before .args .n in
-    let e = ap (λ (k : ℕ). stepText (text "E ") n k) (number at-ask) in
+    let a = at-ask .before .before .before .before .args in
+    let e = step-replied (text "E ") (a .n) (endAnswer (a .state .now) (a .n)) (at-ask .ask-end .ensures .answer-is) in
     (written-as e (at-step .put-step .ensures), at-ask .ask-end .ensures .memory-is)
 
 pub step-end-spec : {M : Type 1} → statement M

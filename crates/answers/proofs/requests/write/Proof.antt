@@ -10,7 +10,7 @@ use Rattle.rules.specs.Image.{imageOf}
 use Rattle.rules.specs.Calls.{writeAnswer}
 use Rattle.rules.specs.Text.{text}
 use Rattle.text.proofs.Texts.{written-more, written-as}
-use Rattle.answers.specs.Answers.{numberLine, hexLine, imageRoom, writeText}
+use Rattle.answers.specs.Answers.{numberLine, hexLine, imageRoom, writeAnswered}
 use Rattle.answers.proofs.Cases.{write-refused, Written-image, image-done}
 use Rattle.answers.proofs.requests.write.Statement.{statement}
 use Rattle.answers.proofs.requests.write.Tie as tie
@@ -99,7 +99,7 @@ cast-put-number-line : tie.Need-cast-put-number-line
 cast-put-number-line c = search needs
 
 put-number-line-requires-2 : tie.Need-put-number-line-requires-2
-unfolding imageRoom writeText text
+unfolding imageRoom writeAnswered text
 put-number-line-requires-2 c κs =
     let at-n = c .before .before .before in
     let at-write = at-n .before .before .before in
@@ -125,7 +125,7 @@ same-length-2 : tie.Need-same-length-2
 same-length-2 c = search needs
 
 returns-2 : tie.Need-returns-2
-unfolding imageRoom writeText text
+unfolding imageRoom writeAnswered text
 returns-2 c =
     let at-put = c .before .before in
     let at-n = at-put .before .before .before .before in

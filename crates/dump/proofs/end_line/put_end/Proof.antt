@@ -78,12 +78,9 @@ put-queue-requires c κs =
     let a = at-start .args in
     (at-start .pre .0, room-rest (listText (itemTexts (endAt (view (a .m .now)) (a .e)))) (two at-partner) (at-head .put-head .ensures))
 
-slice-aggregate-put-bytes : tie.Need-slice-aggregate-put-bytes
-slice-aggregate-put-bytes c = search needs
-
-put-bytes-requires : tie.Need-put-bytes-requires
-put-bytes-requires c κs =
-    let at-queue = c .before .before .before .before in
+put-letter-requires : tie.Need-put-letter-requires
+put-letter-requires c κs =
+    let at-queue = c .before .before .before in
     let at-head = at-queue .before .before .before .before in
     room-rest (10 ∷ []) (whole (at-head .before)) (written-more (at-head .put-head .ensures) (at-queue .put-queue .ensures))
 
@@ -93,10 +90,10 @@ same-length c = search needs
 returns-2 : tie.Need-returns-2
 returns-2 c =
     let at-end = c .before .before in
-    let at-queue = at-end .before .before .before .before .before in
+    let at-queue = at-end .before .before .before .before in
     let at-head = at-queue .before .before .before .before in
     let queue = written-more (at-head .put-head .ensures) (at-queue .put-queue .ensures) in
-    written-as (parts (at-head .before)) (written-more queue (at-end .put-bytes .ensures))
+    written-as (parts (at-head .before)) (written-more queue (at-end .put-letter .ensures))
 
 pub put-end-spec : {M : Type 1} → statement M
 put-end-spec =
@@ -107,7 +104,6 @@ put-end-spec =
     partner-requires
     put-head-requires
     put-queue-requires
-    slice-aggregate-put-bytes
-    put-bytes-requires
+    put-letter-requires
     same-length
     returns-2)

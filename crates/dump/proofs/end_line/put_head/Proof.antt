@@ -18,26 +18,23 @@ whole s = let a = s .args in room-as (a .at) _ _ (a .out .now) (head-parts (a .e
 two : (s : tie.Start) → let a = s .args in a .at + length (69 ∷ decimal (a .e) ++ partnerPart (a .partner .0)) ≤ length (a .out .now)
 two s = let a = s .args in room-first (a .at) (69 ∷ decimal (a .e) ++ partnerPart (a .partner .0)) queueWord (a .out .now) (whole s)
 
-slice-aggregate-put-named : tie.Need-slice-aggregate-put-named
-slice-aggregate-put-named c = search needs
-
-put-named-requires : tie.Need-put-named-requires
-put-named-requires c κs =
-    let at-start = c .before .before .before in
+put-lettered-requires : tie.Need-put-lettered-requires
+put-lettered-requires c κs =
+    let at-start = c .before .before in
     let a = at-start .args in
     room-first (a .at) (69 ∷ decimal (a .e)) (partnerPart (a .partner .0)) (a .out .now) (two at-start)
 
-slice-aggregate-put-named-2 : tie.Need-slice-aggregate-put-named-2
-slice-aggregate-put-named-2 c = search needs
+slice-aggregate-put-named : tie.Need-slice-aggregate-put-named
+slice-aggregate-put-named c = search needs
 
 cast-put-named : tie.Need-cast-put-named
 cast-put-named c = search needs
 
-put-named-requires-2 : tie.Need-put-named-requires-2
-put-named-requires-2 c κs =
+put-named-requires : tie.Need-put-named-requires
+put-named-requires c κs =
     let at-end = c .before .before .before .before .before in
-    let at-start = at-end .before .before .before .before in
-    room-rest (partnerPart (at-start .args .partner .0)) (two at-start) (at-end .put-named .ensures)
+    let at-start = at-end .before .before .before in
+    room-rest (partnerPart (at-start .args .partner .0)) (two at-start) (at-end .put-lettered .ensures)
 
 slice-aggregate-put-bytes : tie.Need-slice-aggregate-put-bytes
 slice-aggregate-put-bytes c = search needs
@@ -46,8 +43,8 @@ put-bytes-requires : tie.Need-put-bytes-requires
 put-bytes-requires c κs =
     let at-partner = c .before .before .before .before in
     let at-end = at-partner .before .before .before .before .before .before in
-    let written = written-more (at-end .put-named .ensures) (at-partner .put-named2 .ensures) in
-    room-rest queueWord (whole (at-end .before .before .before .before)) written
+    let written = written-more (at-end .put-lettered .ensures) (at-partner .put-named .ensures) in
+    room-rest queueWord (whole (at-end .before .before .before)) written
 
 same-length : tie.Need-same-length
 same-length c = search needs
@@ -57,19 +54,18 @@ returns c =
     let at-word = c .before .before in
     let at-partner = at-word .before .before .before .before .before in
     let at-end = at-partner .before .before .before .before .before .before in
-    let a = at-end .before .before .before .before .args in
+    let a = at-end .before .before .before .args in
     written-as (head-parts (a .e) (a .partner .0))
-    (written-more (written-more (at-end .put-named .ensures) (at-partner .put-named2 .ensures)) (at-word .put-bytes .ensures))
+    (written-more (written-more (at-end .put-lettered .ensures) (at-partner .put-named .ensures)) (at-word .put-bytes .ensures))
 
 pub put-head-spec : {M : Type 1} → statement M
 put-head-spec =
     tie.close
     (tie.spec
+    put-lettered-requires
     slice-aggregate-put-named
-    put-named-requires
-    slice-aggregate-put-named-2
     cast-put-named
-    put-named-requires-2
+    put-named-requires
     slice-aggregate-put-bytes
     put-bytes-requires
     same-length

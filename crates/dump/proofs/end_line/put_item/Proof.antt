@@ -31,16 +31,13 @@ put-queued-value-requires c κs =
 enum-known-item-2 : tie.Need-enum-known-item-2
 enum-known-item-2 c = search needs
 
-slice-aggregate-put-named : tie.Need-slice-aggregate-put-named
-slice-aggregate-put-named c = search needs
+cast-put-lettered : tie.Need-cast-put-lettered
+cast-put-lettered c = search needs
 
-cast-put-named : tie.Need-cast-put-named
-cast-put-named c = search needs
-
-put-named-requires : tie.Need-put-named-requires
+put-lettered-requires : tie.Need-put-lettered-requires
 unfolding itemText datumText text
-put-named-requires c κs =
-    let at-item = c .before .before .before in
+put-lettered-requires c κs =
+    let at-item = c .before .before in
     let at-start = at-item .before .before .before in
     let a = at-start .args in
     room-as (a .at) _ _ (a .out .now) (shown (at-item .item2 .given .1)) (at-start .pre)
@@ -59,13 +56,10 @@ put-split-requires c κs =
 enum-told : tie.Need-enum-told
 enum-told c = search needs
 
-slice-aggregate-put-bytes : tie.Need-slice-aggregate-put-bytes
-slice-aggregate-put-bytes c = search needs
-
-put-bytes-requires : tie.Need-put-bytes-requires
+put-letter-requires : tie.Need-put-letter-requires
 unfolding itemText lastText text
-put-bytes-requires c κs =
-    let at-item = c .before .before in
+put-letter-requires c κs =
+    let at-item = c .before in
     let at-start = at-item .before .before .before in
     let a = at-start .args in
     room-as (a .at) _ _ (a .out .now) (shown (at-item .enum-told .given .1)) (at-start .pre)
@@ -73,16 +67,13 @@ put-bytes-requires c κs =
 enum-known-item-4 : tie.Need-enum-known-item-4
 enum-known-item-4 c = search needs
 
-slice-aggregate-put-named-2 : tie.Need-slice-aggregate-put-named-2
-slice-aggregate-put-named-2 c = search needs
+cast-put-lettered-2 : tie.Need-cast-put-lettered-2
+cast-put-lettered-2 c = search needs
 
-cast-put-named-2 : tie.Need-cast-put-named-2
-cast-put-named-2 c = search needs
-
-put-named-requires-2 : tie.Need-put-named-requires-2
+put-lettered-requires-2 : tie.Need-put-lettered-requires-2
 unfolding itemText lastText text
-put-named-requires-2 c κs =
-    let at-item = c .before .before .before .before in
+put-lettered-requires-2 c κs =
+    let at-item = c .before .before .before in
     let at-start = at-item .before .before .before in
     let a = at-start .args in
     room-as (a .at) _ _ (a .out .now) (shown (at-item .item4 .given .1)) (at-start .pre)
@@ -105,8 +96,8 @@ returns-2 : tie.Need-returns-2
 unfolding itemText datumText text
 returns-2 c =
     let at-put = c .before .before in
-    let at-item = at-put .before .before .before .before in
-    written-as (shown (at-item .item2 .given .1)) (at-put .put-named .ensures)
+    let at-item = at-put .before .before .before in
+    written-as (shown (at-item .item2 .given .1)) (at-put .put-lettered .ensures)
 
 same-length-3 : tie.Need-same-length-3
 same-length-3 c = search needs
@@ -125,8 +116,8 @@ returns-4 : tie.Need-returns-4
 unfolding itemText lastText text
 returns-4 c =
     let at-put = c .before .before in
-    let at-item = at-put .before .before .before in
-    written-as (shown (at-item .enum-told .given .1)) (at-put .put-bytes .ensures)
+    let at-item = at-put .before .before in
+    written-as (shown (at-item .enum-told .given .1)) (at-put .put-letter .ensures)
 
 same-length-5 : tie.Need-same-length-5
 same-length-5 c = search needs
@@ -135,8 +126,8 @@ returns-5 : tie.Need-returns-5
 unfolding itemText lastText text
 returns-5 c =
     let at-put = c .before .before in
-    let at-item = at-put .before .before .before .before .before in
-    written-as (shown (at-item .item4 .given .1)) (at-put .put-named2 .ensures)
+    let at-item = at-put .before .before .before .before in
+    written-as (shown (at-item .item4 .given .1)) (at-put .put-lettered2 .ensures)
 
 pub put-item-spec : {M : Type 1} → statement M
 put-item-spec =
@@ -145,18 +136,15 @@ put-item-spec =
     enum-known-item
     put-queued-value-requires
     enum-known-item-2
-    slice-aggregate-put-named
-    cast-put-named
-    put-named-requires
+    cast-put-lettered
+    put-lettered-requires
     enum-known-item-3
     put-split-requires
     enum-told
-    slice-aggregate-put-bytes
-    put-bytes-requires
+    put-letter-requires
     enum-known-item-4
-    slice-aggregate-put-named-2
-    cast-put-named-2
-    put-named-requires-2
+    cast-put-lettered-2
+    put-lettered-requires-2
     same-length
     returns
     same-length-2

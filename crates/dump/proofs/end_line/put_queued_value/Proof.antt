@@ -9,13 +9,10 @@ use borrow.Author.Needs.{needs}
 use Rattle.dump.proofs.end_line.put_queued_value.Statement.{statement}
 use Rattle.dump.proofs.end_line.put_queued_value.Tie as tie
 
-slice-aggregate-put-bytes : tie.Need-slice-aggregate-put-bytes
-slice-aggregate-put-bytes c = search needs
-
-put-bytes-requires : tie.Need-put-bytes-requires
+put-letter-requires : tie.Need-put-letter-requires
 unfolding text
-put-bytes-requires c κs =
-    let at-start = c .before .before .before in
+put-letter-requires c κs =
+    let at-start = c .before .before in
     let a = at-start .args in
     room-first (a .at) (118 ∷ []) (signedDecimal (a .v)) (a .out .now) (at-start .pre)
 
@@ -23,9 +20,9 @@ put-signed-requires : tie.Need-put-signed-requires
 unfolding text
 put-signed-requires c κs =
     let at-letter = c .before .before .before in
-    let at-start = at-letter .before .before .before .before in
+    let at-start = at-letter .before .before .before in
     let v = at-start .args .v in
-    rw (toZ-ofZ {w = w32} {z = v} (at-start .fits .v)) (room-rest (signedDecimal v) (at-start .pre) (at-letter .put-bytes .ensures))
+    rw (toZ-ofZ {w = w32} {z = v} (at-start .fits .v)) (room-rest (signedDecimal v) (at-start .pre) (at-letter .put-letter .ensures))
 
 same-length : tie.Need-same-length
 same-length c = search needs
@@ -35,15 +32,14 @@ unfolding text
 returns c =
     let at-value = c .before .before in
     let at-letter = at-value .before .before .before .before in
-    let same = ap signedDecimal (toZ-ofZ (at-letter .before .before .before .before .fits .v)) in
-    written-more (at-letter .put-bytes .ensures) (written-as same (at-value .put-signed .ensures))
+    let same = ap signedDecimal (toZ-ofZ (at-letter .before .before .before .fits .v)) in
+    written-more (at-letter .put-letter .ensures) (written-as same (at-value .put-signed .ensures))
 
 pub put-queued-value-spec : {M : Type 1} → statement M
 put-queued-value-spec =
     tie.close
     (tie.spec
-    slice-aggregate-put-bytes
-    put-bytes-requires
+    put-letter-requires
     put-signed-requires
     same-length
     returns)

@@ -10,12 +10,9 @@ returns c =
     let a = c .before .before .args in
     written-as (no-comma (a .shown) (c .if1 .taken)) (written-none (a .out .now) (a .at))
 
-slice-aggregate-put-bytes : tie.Need-slice-aggregate-put-bytes
-slice-aggregate-put-bytes c = search needs
-
-put-bytes-requires : tie.Need-put-bytes-requires
-put-bytes-requires c κs =
-    let at-if = c .before .before in
+put-letter-requires : tie.Need-put-letter-requires
+put-letter-requires c κs =
+    let at-if = c .before in
     let at-start = at-if .before .before in
     let a = at-start .args in
     room-as (a .at) _ _ (a .out .now) (comma-text (a .shown) (at-if .if1 .left)) (at-start .pre)
@@ -26,9 +23,9 @@ same-length c = search needs
 returns-2 : tie.Need-returns-2
 returns-2 c =
     let at-put = c .before .before in
-    let at-if = at-put .before .before .before in
-    written-as (comma-text (at-if .before .before .args .shown) (at-if .if1 .left)) (at-put .put-bytes .ensures)
+    let at-if = at-put .before .before in
+    written-as (comma-text (at-if .before .before .args .shown) (at-if .if1 .left)) (at-put .put-letter .ensures)
 
 pub put-comma-spec : {M : Type 1} → statement M
 put-comma-spec =
-    tie.close (tie.spec returns slice-aggregate-put-bytes put-bytes-requires same-length returns-2)
+    tie.close (tie.spec returns put-letter-requires same-length returns-2)

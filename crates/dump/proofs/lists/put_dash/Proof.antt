@@ -5,12 +5,9 @@ use borrow.Author.Needs.{needs}
 use Rattle.dump.proofs.lists.put_dash.Statement.{statement}
 use Rattle.dump.proofs.lists.put_dash.Tie as tie
 
-slice-aggregate-put-bytes : tie.Need-slice-aggregate-put-bytes
-slice-aggregate-put-bytes c = search needs
-
-put-bytes-requires : tie.Need-put-bytes-requires
-put-bytes-requires c κs =
-    let at-if = c .before .before in
+put-letter-requires : tie.Need-put-letter-requires
+put-letter-requires c κs =
+    let at-if = c .before in
     let at-start = at-if .before .before in
     let a = at-start .args in
     room-as (a .at) _ _ (a .out .now) (dash-text (a .shown) (at-if .if1 .taken)) (at-start .pre)
@@ -21,8 +18,8 @@ same-length c = search needs
 returns : tie.Need-returns
 returns c =
     let at-put = c .before .before in
-    let at-if = at-put .before .before .before in
-    written-as (dash-text (at-if .before .before .args .shown) (at-if .if1 .taken)) (at-put .put-bytes .ensures)
+    let at-if = at-put .before .before in
+    written-as (dash-text (at-if .before .before .args .shown) (at-if .if1 .taken)) (at-put .put-letter .ensures)
 
 returns-2 : tie.Need-returns-2
 returns-2 c =
@@ -33,8 +30,7 @@ pub put-dash-spec : {M : Type 1} → statement M
 put-dash-spec =
     tie.close
     (tie.spec
-    slice-aggregate-put-bytes
-    put-bytes-requires
+    put-letter-requires
     same-length
     returns
     returns-2)

@@ -31,12 +31,9 @@ put-decimal-requires c κs =
     let at-start = at-comma .before .before .before in
     room-rest (decimal (at-start .args .c)) (two at-start) (at-comma .put-comma .ensures)
 
-slice-aggregate-put-named : tie.Need-slice-aggregate-put-named
-slice-aggregate-put-named c = search needs
-
-put-named-requires : tie.Need-put-named-requires
-put-named-requires c κs =
-    let at-slot = c .before .before .before .before in
+put-lettered-requires : tie.Need-put-lettered-requires
+put-lettered-requires c κs =
+    let at-slot = c .before .before .before in
     let at-comma = at-slot .before .before .before .before in
     let at-start = at-comma .before .before .before in
     let written = written-more (at-comma .put-comma .ensures) (at-slot .put-decimal .ensures) in
@@ -48,11 +45,11 @@ same-length c = search needs
 returns : tie.Need-returns
 returns c =
     let at-end = c .before .before in
-    let at-slot = at-end .before .before .before .before .before in
+    let at-slot = at-end .before .before .before .before in
     let at-comma = at-slot .before .before .before .before in
     let a = at-comma .before .before .before .args in
     written-as (slot-parts (a .shown) (a .c) (a .e))
-    (written-more (written-more (at-comma .put-comma .ensures) (at-slot .put-decimal .ensures)) (at-end .put-named .ensures))
+    (written-more (written-more (at-comma .put-comma .ensures) (at-slot .put-decimal .ensures)) (at-end .put-lettered .ensures))
 
 pub put-slot-spec : {M : Type 1} → statement M
 put-slot-spec =
@@ -60,7 +57,6 @@ put-slot-spec =
     (tie.spec
     put-comma-requires
     put-decimal-requires
-    slice-aggregate-put-named
-    put-named-requires
+    put-lettered-requires
     same-length
     returns)

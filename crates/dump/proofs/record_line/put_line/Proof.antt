@@ -22,27 +22,24 @@ two s =
     let a = s .args in
     room-first (a .at) (82 ∷ decimal (a .r) ++ a .status .now) (registersText (processIn (a .g))) (a .out .now) (whole s)
 
-slice-aggregate-put-named : tie.Need-slice-aggregate-put-named
-slice-aggregate-put-named c = search needs
-
-put-named-requires : tie.Need-put-named-requires
-put-named-requires c κs =
-    let at-start = c .before .before .before .before in
+put-lettered-requires : tie.Need-put-lettered-requires
+put-lettered-requires c κs =
+    let at-start = c .before .before .before in
     let a = at-start .args in
     room-first (a .at) (82 ∷ decimal (a .r)) (a .status .now) (a .out .now) (two at-start)
 
 put-bytes-requires : tie.Need-put-bytes-requires
 put-bytes-requires c κs =
     let at-number = c .before .before .before in
-    let at-start = at-number .before .before .before .before .before in
-    room-rest (at-start .args .status .now) (two at-start) (at-number .put-named .ensures)
+    let at-start = at-number .before .before .before .before in
+    room-rest (at-start .args .status .now) (two at-start) (at-number .put-lettered .ensures)
 
 put-registers-requires : tie.Need-put-registers-requires
 put-registers-requires c κs =
     let at-status = c .before .before .before in
     let at-number = at-status .before .before .before .before in
-    let at-start = at-number .before .before .before .before .before in
-    let written = written-more (at-number .put-named .ensures) (at-status .put-bytes .ensures) in
+    let at-start = at-number .before .before .before .before in
+    let written = written-more (at-number .put-lettered .ensures) (at-status .put-bytes .ensures) in
     ((at-start .pre .0 .0, at-start .pre .0 .1), room-rest (registersText (processIn (at-start .args .g))) (whole at-start) written)
 
 same-length : tie.Need-same-length
@@ -53,15 +50,14 @@ unfolding text
 returns c =
     let at-registers = c .before .before in
     let at-status = at-registers .before .before .before .before in
-    let written = written-more (at-status .before .before .before .before .put-named .ensures) (at-status .put-bytes .ensures) in
+    let written = written-more (at-status .before .before .before .before .put-lettered .ensures) (at-status .put-bytes .ensures) in
     written-more written (at-registers .put-registers .ensures)
 
 pub put-line-spec : {M : Type 1} → statement M
 put-line-spec =
     tie.close
     (tie.spec
-    slice-aggregate-put-named
-    put-named-requires
+    put-lettered-requires
     put-bytes-requires
     put-registers-requires
     same-length

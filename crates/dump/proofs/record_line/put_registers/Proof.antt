@@ -89,12 +89,9 @@ put-slots-requires c κs =
     let written = written-more (written-more first (at-environment .put-named-values2 .ensures)) (at-word .put-bytes .ensures) in
     room-rest (slotsText (processIn (at-start .args .g) .slots)) (slots-room at-start) written
 
-slice-aggregate-put-bytes-2 : tie.Need-slice-aggregate-put-bytes-2
-slice-aggregate-put-bytes-2 c = search needs
-
-put-bytes-requires-2 : tie.Need-put-bytes-requires-2
-put-bytes-requires-2 c κs =
-    let at-slots = c .before .before .before .before in
+put-letter-requires : tie.Need-put-letter-requires
+put-letter-requires c κs =
+    let at-slots = c .before .before .before in
     let at-word = at-slots .before .before .before .before in
     let at-environment = at-word .before .before .before .before .before in
     let at-stack = at-environment .before .before .before .before .before in
@@ -110,7 +107,7 @@ same-length c = search needs
 returns : tie.Need-returns
 returns c =
     let at-end = c .before .before in
-    let at-slots = at-end .before .before .before .before .before in
+    let at-slots = at-end .before .before .before .before in
     let at-word = at-slots .before .before .before .before in
     let at-environment = at-word .before .before .before .before .before in
     let at-stack = at-environment .before .before .before .before .before in
@@ -118,7 +115,7 @@ returns c =
     let first = written-more (at-place .put-decimal .ensures) (at-stack .put-named-values .ensures) in
     let written = written-more (written-more first (at-environment .put-named-values2 .ensures)) (at-word .put-bytes .ensures) in
     written-as (registers-parts (processIn (at-place .before .before .before .before .before .before .before .args .g)))
-    (written-more (written-more written (at-slots .put-slots .ensures)) (at-end .put-bytes2 .ensures))
+    (written-more (written-more written (at-slots .put-slots .ensures)) (at-end .put-letter .ensures))
 
 pub put-registers-spec : {M : Type 1} → statement M
 put-registers-spec =
@@ -133,7 +130,6 @@ put-registers-spec =
     slice-aggregate-put-bytes
     put-bytes-requires
     put-slots-requires
-    slice-aggregate-put-bytes-2
-    put-bytes-requires-2
+    put-letter-requires
     same-length
     returns)

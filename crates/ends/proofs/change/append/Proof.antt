@@ -10,8 +10,8 @@ use Rattle.ends.proofs.Changes.{append-written}
 use Rattle.ends.proofs.change.append.Statement.{statement}
 use Rattle.ends.proofs.change.append.Tie as tie
 
-get-count-requires : tie.Need-get-count-requires
-get-count-requires c κs = search needs
+queued-requires : tie.Need-queued-requires
+queued-requires c κs = search needs
 
 cell-of-requires : tie.Need-cell-of-requires
 cell-of-requires c κs = search needs
@@ -36,11 +36,11 @@ returns c st z laid used no-last =
     let at-count = at-cell .before .before in
     let start = at-count .before .before .before in
     let a = start .args in
-    let k = at-count .get-count .result in
+    let k = at-count .queued .result in
     let e = a .end .0 in
     let inside = start .pre .1 in
-    let count : k ≡ queueLength (endAt st e) = at-count .get-count .ensures ∙ count-is st z (a .m .now) laid e inside in
-    let room : k < queueDepth = rw (at-count .get-count .ensures) (start .pre .2) in
+    let count : k ≡ queueLength (endAt st e) = at-count .queued .ensures .0 ∙ count-is st z (a .m .now) laid e inside in
+    let room : k < queueDepth = rw (at-count .queued .ensures .0) (start .pre .2) in
     append-written st z e inside laid used no-last (itemOf (a .item)) k (at-cell .cell-of .result) count room (at-cell .cell-of .ensures)
     (at-put-cell .put-cell .ensures) (at-put-count .put-count .ensures)
 
@@ -48,7 +48,7 @@ pub append-spec : {M : Type 1} → statement M
 append-spec =
     tie.close
     (tie.spec
-    get-count-requires
+    queued-requires
     cell-of-requires
     put-cell-requires
     add-put-count

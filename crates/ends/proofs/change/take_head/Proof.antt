@@ -8,8 +8,8 @@ use Rattle.ends.proofs.Changes.{take-none, take-written}
 use Rattle.ends.proofs.change.take_head.Statement.{statement}
 use Rattle.ends.proofs.change.take_head.Tie as tie
 
-get-count-requires : tie.Need-get-count-requires
-get-count-requires c κs = search needs
+queued-requires : tie.Need-queued-requires
+queued-requires c κs = search needs
 
 same-length : tie.Need-same-length
 same-length c = search needs
@@ -21,7 +21,7 @@ returns c st z laid fits =
     let a = start .args in
     let e = a .end .0 in
     let empty : queueLength (endAt st e) ≡ 0 =
-    sym (count-is st z (a .m .now) laid e (start .pre .1)) ∙ sym (at-count .get-count .ensures) ∙ c .if1 .taken in
+    sym (count-is st z (a .m .now) laid e (start .pre .1)) ∙ sym (at-count .queued .ensures .0) ∙ c .if1 .taken in
     laid ∙ ap layout (take-none st e empty)
 
 get-cells-requires : tie.Need-get-cells-requires
@@ -70,16 +70,16 @@ returns-2 c st z laid fits =
     let a = start .args in
     let e = a .end .0 in
     let inside = start .pre .1 in
-    let count = at-count .get-count .ensures ∙ count-is st z (a .m .now) laid e inside in
+    let count = at-count .queued .ensures .0 ∙ count-is st z (a .m .now) laid e inside in
     let cells = at-cells .get-cells .ensures ∙ cells-are st z (a .m .now) laid e inside fits in
-    take-written st z e inside laid fits (at-count .get-count .result) (at-cells .get-cells .result) count cells
+    take-written st z e inside laid fits (at-count .queued .result) (at-cells .get-cells .result) count cells
     (at-put-cells .put-cells .ensures) (at-put-count .put-count .ensures)
 
 pub take-head-spec : {M : Type 1} → statement M
 take-head-spec =
     tie.close
     (tie.spec
-    get-count-requires
+    queued-requires
     same-length
     returns
     get-cells-requires

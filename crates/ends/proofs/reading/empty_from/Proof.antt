@@ -25,8 +25,8 @@ returns c =
     let eight : a .end .0 + 8 ≤ endCount = omega (arith, at-if .if1 .taken) in
     (eight, λ st z e. eight-empty st z (a .m .now) e (a .end .0) eight (sym (at-counts .get-eight-counts .ensures) ∙ c .if2 .taken))
 
-get-count-requires : tie.Need-get-count-requires
-get-count-requires c κs = search needs
+queued-requires : tie.Need-queued-requires
+queued-requires c κs = search needs
 
 returns-2 : tie.Need-returns-2
 returns-2 c =
@@ -34,11 +34,11 @@ returns-2 c =
     let start = at-count .before .before .before .before in
     let a = start .args in
     let within = start .pre .1 in
-    (omega (arith, within), λ st z e. one-empty st z (a .m .now) e (a .end .0) within (sym (at-count .get-count .ensures) ∙ c .if3 .taken))
+    (omega (arith, within), λ st z e. one-empty st z (a .m .now) e (a .end .0) within (sym (at-count .queued .ensures .0) ∙ c .if3 .taken))
 
 returns-3 : tie.Need-returns-3
 returns-3 c = search needs
 
 pub empty-from-spec : {M : Type 1} → statement M
 empty-from-spec =
-    tie.close (tie.spec cast-if1 add-if1 get-eight-counts-requires returns get-count-requires returns-2 returns-3)
+    tie.close (tie.spec cast-if1 add-if1 get-eight-counts-requires returns queued-requires returns-2 returns-3)

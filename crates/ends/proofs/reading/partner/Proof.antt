@@ -5,14 +5,20 @@ use Rattle.ends.proofs.Shown.{partner-is}
 use Rattle.ends.proofs.reading.partner.Statement.{statement}
 use Rattle.ends.proofs.reading.partner.Tie as tie
 
-get-partner-requires : tie.Need-get-partner-requires
-get-partner-requires c κs = search needs
+cast-get8 : tie.Need-cast-get8
+cast-get8 c = search needs
+
+add-get8 : tie.Need-add-get8
+add-get8 c = search needs
+
+get8-requires : tie.Need-get8-requires
+get8-requires c κs = search needs
 
 returns : tie.Need-returns
 returns c st z e =
-    let start = c .before .before in
+    let start = c .before .before .before in
     let a = start .args in
-    c .get-partner .ensures ∙ partner-is st z (a .m .now) e (a .end .0) (start .pre .1)
+    c .get8 .ensures ∙ partner-is st z (a .m .now) e (a .end .0) (start .pre .1)
 
 pub partner-spec : {M : Type 1} → statement M
-partner-spec = tie.close (tie.spec get-partner-requires returns)
+partner-spec = tie.close (tie.spec cast-get8 add-get8 get8-requires returns)

@@ -1,51 +1,17 @@
--- A close against each item: only a close matches. Assumes nothing.
-use mathlib.Core.Path.{refl}
+-- A close against an item: only a close matches. Assumes nothing.
 use borrow.Author.Needs.{needs}
-use Rattle.meetings.proofs.Pairs.{no-match, two-closes}
+use Rattle.meetings.proofs.Pairs.{close-unmet, two-closes}
 use Rattle.meetings.proofs.heads.close_meets.Statement.{statement}
 use Rattle.meetings.proofs.heads.close_meets.Tie as tie
 
 enum-told : tie.Need-enum-told
 enum-told c = search needs
 
-enum-told-2 : tie.Need-enum-told-2
-enum-told-2 c = search needs
-
-enum-told-3 : tie.Need-enum-told-3
-enum-told-3 c = search needs
-
-enum-told-4 : tie.Need-enum-told-4
-enum-told-4 c = search needs
-
-enum-told-5 : tie.Need-enum-told-5
-enum-told-5 c = search needs
-
 returns : tie.Need-returns
-returns c = rw (c .enum-told .given .1) (no-match (λ st. refl))
+returns c = let a = c .before .before .args in rw (c .enum-told .given .1) (two-closes (a .e) (a .f))
 
 returns-2 : tie.Need-returns-2
-returns-2 c = rw (c .enum-told2 .given .1) (no-match (λ st. refl))
-
-returns-3 : tie.Need-returns-3
-returns-3 c = rw (c .enum-told3 .given .1) (no-match (λ st. refl))
-
-returns-4 : tie.Need-returns-4
-returns-4 c = let a = c .before .before .args in rw (c .enum-told4 .given .1) (two-closes (a .e) (a .f))
-
-returns-5 : tie.Need-returns-5
-returns-5 c = rw (c .enum-told5 .given .1) (no-match (λ st. refl))
+returns-2 c = close-unmet (c .before .args .y) (c .match .keys2)
 
 pub close-meets-spec : {M : Type 1} → statement M
-close-meets-spec =
-    tie.close
-    (tie.spec
-    enum-told
-    enum-told-2
-    enum-told-3
-    enum-told-4
-    enum-told-5
-    returns
-    returns-2
-    returns-3
-    returns-4
-    returns-5)
+close-meets-spec = tie.close (tie.spec enum-told returns returns-2)

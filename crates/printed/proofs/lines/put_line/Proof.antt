@@ -30,46 +30,46 @@ room-1 c =
     let at-start = c .before .before .before in
     room-rest ((32 ∷ []) ++ fromPosition (printedOf (at-start .args .x))) (whole at-start) (c .put-decimal .ensures)
 
-room-2 : (c : tie.After-put-bytes)
-    → c .put-bytes .result + length (fromPosition (printedOf (c .before .before .before .before .before .before .before .before .args .x)))
-    ≤ length (c .put-bytes .last .0)
+room-2 : (c : tie.After-put-letter)
+    → c .put-letter .result + length (fromPosition (printedOf (c .before .before .before .before .before .before .before .args .x)))
+    ≤ length (c .put-letter .last .0)
 room-2 c =
-    let at-decimal = c .before .before .before .before .before in
-    room-rest (fromPosition (printedOf (at-decimal .before .before .before .args .x))) (room-1 at-decimal) (c .put-bytes .ensures)
+    let at-decimal = c .before .before .before .before in
+    room-rest (fromPosition (printedOf (at-decimal .before .before .before .args .x))) (room-1 at-decimal) (c .put-letter .ensures)
 
 room-3 : (c : tie.After-put-position)
-    → let at-bytes = c .before .before .before .before in
-    let at-start = at-bytes .before .before .before .before .before .before .before .before in
+    → let at-space = c .before .before .before .before in
+    let at-start = at-space .before .before .before .before .before .before .before in
     c .put-position .result + length ((32 ∷ []) ++ fromKind (printedOf (at-start .args .x))) ≤ length (c .put-position .last .0)
 room-3 c =
-    let at-bytes = c .before .before .before .before in
-    let at-start = at-bytes .before .before .before .before .before .before .before .before in
-    room-rest ((32 ∷ []) ++ fromKind (printedOf (at-start .args .x))) (room-2 at-bytes) (c .put-position .ensures)
+    let at-space = c .before .before .before .before in
+    let at-start = at-space .before .before .before .before .before .before .before in
+    room-rest ((32 ∷ []) ++ fromKind (printedOf (at-start .args .x))) (room-2 at-space) (c .put-position .ensures)
 
-room-4 : (c : tie.After-put-bytes2)
-    → let at-bytes = c .before .before .before .before .before .before .before .before .before in
-    let at-start = at-bytes .before .before .before .before .before .before .before .before in
-    c .put-bytes2 .result + length (fromKind (printedOf (at-start .args .x))) ≤ length (c .put-bytes2 .last .0)
+room-4 : (c : tie.After-put-letter2)
+    → let at-space = c .before .before .before .before .before .before .before .before in
+    let at-start = at-space .before .before .before .before .before .before .before in
+    c .put-letter2 .result + length (fromKind (printedOf (at-start .args .x))) ≤ length (c .put-letter2 .last .0)
 room-4 c =
-    let at-position = c .before .before .before .before .before in
-    let at-start = at-position .before .before .before .before .before .before .before .before .before .before .before .before in
-    room-rest (fromKind (printedOf (at-start .args .x))) (room-3 at-position) (c .put-bytes2 .ensures)
+    let at-position = c .before .before .before .before in
+    let at-start = at-position .before .before .before .before .before .before .before .before .before .before .before in
+    room-rest (fromKind (printedOf (at-start .args .x))) (room-3 at-position) (c .put-letter2 .ensures)
 
 -- the number has 32 bits, so what is printed is the number that was given
 number-fits : (c : tie.Start) → SFits w32 (c .args .x .number)
 number-fits c = search needs
 
 kind-written : (c : tie.After-put-kind)
-    → let at-bytes = c .before .before .before .before .before in
-    let at-position = at-bytes .before .before .before .before .before in
-    let at-start = at-position .before .before .before .before .before .before .before .before .before .before .before .before in
+    → let at-space = c .before .before .before .before .before in
+    let at-position = at-space .before .before .before .before in
+    let at-start = at-position .before .before .before .before .before .before .before .before .before .before .before in
     let x = printedOf (at-start .args .x) in
-    Written (at-bytes .put-bytes2 .last .0) (at-bytes .put-bytes2 .result) (kindText (x .kind) (x .number)) (c .put-kind .last .0)
+    Written (at-space .put-letter2 .last .0) (at-space .put-letter2 .result) (kindText (x .kind) (x .number)) (c .put-kind .last .0)
     (c .put-kind .result)
 kind-written c =
-    let at-bytes = c .before .before .before .before .before in
-    let at-position = at-bytes .before .before .before .before .before in
-    let at-start = at-position .before .before .before .before .before .before .before .before .before .before .before .before in
+    let at-space = c .before .before .before .before .before in
+    let at-position = at-space .before .before .before .before in
+    let at-start = at-position .before .before .before .before .before .before .before .before .before .before .before in
     let x = printedOf (at-start .args .x) in
     written-as (ap (λ (n : ℤ). kindText (x .kind) n) (toZ-ofZ (number-fits at-start))) (c .put-kind .ensures)
 
@@ -79,51 +79,42 @@ put-decimal-requires c κs =
     let a = at-start .args in
     room-first (a .at) (decimal (a .number)) ((32 ∷ []) ++ fromPosition (printedOf (a .x))) (a .out .now) (whole at-start)
 
-slice-aggregate-put-bytes : tie.Need-slice-aggregate-put-bytes
-slice-aggregate-put-bytes c = search needs
-
-put-bytes-requires : tie.Need-put-bytes-requires
-put-bytes-requires c κs =
-    let at-decimal = c .before .before .before .before in
+put-letter-requires : tie.Need-put-letter-requires
+put-letter-requires c κs =
+    let at-decimal = c .before .before .before in
     let x = at-decimal .before .before .before .args .x in
     let d = at-decimal .put-decimal in
     room-first (d .result) (32 ∷ []) (fromPosition (printedOf x)) (d .last .0) (room-1 at-decimal)
 
 put-position-requires : tie.Need-put-position-requires
 put-position-requires c κs =
-    let at-bytes = c .before .before .before in
-    let x = printedOf (at-bytes .before .before .before .before .before .before .before .before .args .x) in
-    let d = at-bytes .put-bytes in
-    room-first (d .result) (positionText (x .position)) ((32 ∷ []) ++ fromKind x) (d .last .0) (room-2 at-bytes)
+    let at-space = c .before .before .before in
+    let x = printedOf (at-space .before .before .before .before .before .before .before .args .x) in
+    let d = at-space .put-letter in
+    room-first (d .result) (positionText (x .position)) ((32 ∷ []) ++ fromKind x) (d .last .0) (room-2 at-space)
 
-slice-aggregate-put-bytes-2 : tie.Need-slice-aggregate-put-bytes-2
-slice-aggregate-put-bytes-2 c = search needs
-
-put-bytes-requires-2 : tie.Need-put-bytes-requires-2
-put-bytes-requires-2 c κs =
-    let at-position = c .before .before .before .before in
-    let at-start = at-position .before .before .before .before .before .before .before .before .before .before .before .before in
+put-letter-requires-2 : tie.Need-put-letter-requires-2
+put-letter-requires-2 c κs =
+    let at-position = c .before .before .before in
+    let at-start = at-position .before .before .before .before .before .before .before .before .before .before .before in
     let d = at-position .put-position in
     room-first (d .result) (32 ∷ []) (fromKind (printedOf (at-start .args .x))) (d .last .0) (room-3 at-position)
 
 put-kind-requires : tie.Need-put-kind-requires
 put-kind-requires c κs =
-    let at-bytes = c .before .before .before .before in
-    let at-position = at-bytes .before .before .before .before .before in
-    let at-start = at-position .before .before .before .before .before .before .before .before .before .before .before .before in
+    let at-space = c .before .before .before .before in
+    let at-position = at-space .before .before .before .before in
+    let at-start = at-position .before .before .before .before .before .before .before .before .before .before .before in
     let x = printedOf (at-start .args .x) in
-    let d = at-bytes .put-bytes2 in
+    let d = at-space .put-letter2 in
     rw (toZ-ofZ {w = w32} {z = x .number} (number-fits at-start))
-    (room-first (d .result) (kindText (x .kind) (x .number)) (10 ∷ []) (d .last .0) (room-4 at-bytes))
+    (room-first (d .result) (kindText (x .kind) (x .number)) (10 ∷ []) (d .last .0) (room-4 at-space))
 
-slice-aggregate-put-bytes-3 : tie.Need-slice-aggregate-put-bytes-3
-slice-aggregate-put-bytes-3 c = search needs
-
-put-bytes-requires-3 : tie.Need-put-bytes-requires-3
-put-bytes-requires-3 c κs =
-    let at-kind = c .before .before .before .before in
-    let at-bytes = at-kind .before .before .before .before .before in
-    room-rest (10 ∷ []) (room-4 at-bytes) (kind-written at-kind)
+put-letter-requires-3 : tie.Need-put-letter-requires-3
+put-letter-requires-3 c κs =
+    let at-kind = c .before .before .before in
+    let at-space = at-kind .before .before .before .before .before in
+    room-rest (10 ∷ []) (room-4 at-space) (kind-written at-kind)
 
 same-length : tie.Need-same-length
 same-length c = search needs
@@ -131,31 +122,28 @@ same-length c = search needs
 returns : tie.Need-returns
 returns c =
     let at-end = c .before .before in
-    let at-kind = at-end .before .before .before .before .before in
-    let at-bytes2 = at-kind .before .before .before .before .before in
-    let at-position = at-bytes2 .before .before .before .before .before in
-    let at-bytes = at-position .before .before .before .before in
-    let at-decimal = at-bytes .before .before .before .before .before in
+    let at-kind = at-end .before .before .before .before in
+    let at-space2 = at-kind .before .before .before .before .before in
+    let at-position = at-space2 .before .before .before .before in
+    let at-space = at-position .before .before .before .before in
+    let at-decimal = at-space .before .before .before .before in
     let a = at-decimal .before .before .before .args in
     written-as (line-text (a .number) (printedOf (a .x)))
     (written-more (at-decimal .put-decimal .ensures)
-    (written-more (at-bytes .put-bytes .ensures)
+    (written-more (at-space .put-letter .ensures)
     (written-more (at-position .put-position .ensures)
-    (written-more (at-bytes2 .put-bytes2 .ensures)
-    (written-more (kind-written at-kind) (at-end .put-bytes3 .ensures))))))
+    (written-more (at-space2 .put-letter2 .ensures)
+    (written-more (kind-written at-kind) (at-end .put-letter3 .ensures))))))
 
 pub put-line-spec : {M : Type 1} → statement M
 put-line-spec =
     tie.close
     (tie.spec
     put-decimal-requires
-    slice-aggregate-put-bytes
-    put-bytes-requires
+    put-letter-requires
     put-position-requires
-    slice-aggregate-put-bytes-2
-    put-bytes-requires-2
+    put-letter-requires-2
     put-kind-requires
-    slice-aggregate-put-bytes-3
-    put-bytes-requires-3
+    put-letter-requires-3
     same-length
     returns)

@@ -34,12 +34,9 @@ put-decimal-requires c κs =
     let n = at-put .before .before .before .before .args .n in
     room-first (at-put .put-bytes .result) (decimal n) (10 ∷ []) (at-put .put-bytes .last .0) (behind-word at-put)
 
-slice-aggregate-put-bytes-2 : tie.Need-slice-aggregate-put-bytes-2
-slice-aggregate-put-bytes-2 c = search needs
-
-put-bytes-requires-2 : tie.Need-put-bytes-requires-2
-put-bytes-requires-2 c κs =
-    let at-number = c .before .before .before .before in
+put-letter-requires : tie.Need-put-letter-requires
+put-letter-requires c κs =
+    let at-number = c .before .before .before in
     room-rest (10 ∷ []) (behind-word (at-number .before .before .before .before)) (at-number .put-decimal .ensures)
 
 same-length : tie.Need-same-length
@@ -48,10 +45,10 @@ same-length c = search needs
 returns : tie.Need-returns
 returns c =
     let at-end = c .before .before in
-    let at-number = at-end .before .before .before .before .before in
+    let at-number = at-end .before .before .before .before in
     let at-put = at-number .before .before .before .before in
     written-as (refused-text (at-put .before .before .before .before .args .n))
-    (written-more (at-put .put-bytes .ensures) (written-more (at-number .put-decimal .ensures) (at-end .put-bytes2 .ensures)))
+    (written-more (at-put .put-bytes .ensures) (written-more (at-number .put-decimal .ensures) (at-end .put-letter .ensures)))
 
 pub put-refused-spec : {M : Type 1} → statement M
 put-refused-spec =
@@ -60,7 +57,6 @@ put-refused-spec =
     slice-aggregate-put-bytes
     put-bytes-requires
     put-decimal-requires
-    slice-aggregate-put-bytes-2
-    put-bytes-requires-2
+    put-letter-requires
     same-length
     returns)

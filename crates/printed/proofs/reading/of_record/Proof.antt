@@ -1,20 +1,23 @@
--- The instruction at the record's place. Assumes nothing.
-use mathlib.Core.Path.{_≡_, sym, ap, _∙_, subst}
+-- The first byte at the record's place tells the instruction. Assumes nothing.
+use mathlib.Core.Path.{_≡_, refl, ap, _∙_, subst}
 use mathlib.Core.List.{List}
-use Prim.Native.Nat.{ℕ}
+use mathlib.Core.Option.{some}
+use Prim.Native.Nat.{ℕ, _≤_}
+use lib.ListN.{length, getD}
+use lib.IntN.{pos}
 use borrow.Author.Needs.{needs}
-use Rattle.rules.specs.State.{recordAt}
 use Rattle.rules.specs.Instruction.{decode}
+use Rattle.rules.specs.Printed.{Printed, printed, instruction-kind, printedDecoded, printedAt}
 use Rattle.rules.specs.Layout.{view}
-use Rattle.code.specs.Meaning.{meaning, instructionOf}
-use Rattle.registers.specs.Registers.{registersIn}
 use Rattle.stepping.proofs.Steps.{memory-sized}
-use Rattle.printed.proofs.Telling.{record-prints, undecoded, decoded-name}
+use Rattle.printed.specs.Meaning.{rowOf, nameIn}
+use Rattle.printed.proofs.Telling.{record-prints}
+use Rattle.printed.proofs.Naming.{first-named, past-code}
 use Rattle.printed.proofs.reading.of_record.Statement.{statement}
 use Rattle.printed.proofs.reading.of_record.Tie as tie
 
-cast-t7 : tie.Need-cast-t7
-cast-t7 c = search needs
+cast-t6 : tie.Need-cast-t6
+cast-t6 c = search needs
 
 place-of-requires : tie.Need-place-of-requires
 place-of-requires c κs = search needs
@@ -25,78 +28,52 @@ cast-place c = search needs
 code-requires : tie.Need-code-requires
 code-requires c κs = search needs
 
-decode-requires : tie.Need-decode-requires
-decode-requires c κs = search needs
-
-enum-told : tie.Need-enum-told
-enum-told c = search needs
+-- what is printed is decoded at the place that was read
+told : (c : tie.After-place-of) (z : Printed)
+    → let a = c .before .before .args in
+    let st = view (a .m .now) in
+    printedAt st (a .position) ≡ some z → printedDecoded (a .position) (decode (st .code) (c .place-of .result)) ≡ some z
+told c z h =
+    let at-start = c .before .before in
+    let a = at-start .args in
+    let st = view (a .m .now) in
+    let s = at-start .pre .2 in
+    let placed = c .place-of .ensures st (memory-sized (a .m .now) s) (s .state-sound .S1 .records-within _) (s .laid-out) in
+    record-prints st (a .position) (c .place-of .result) _ z (at-start .pre .1) placed refl h
 
 closed-requires : tie.Need-closed-requires
 closed-requires c κs = search needs
 
-enum-known-i : tie.Need-enum-known-i
-enum-known-i c = search needs
-
-name-of-requires : tie.Need-name-of-requires
-name-of-requires c κs = search needs
-
--- the place that is read is the record's
-placed : (c : tie.After-place-of)
-    → let a = c .before .before .args in c .place-of .result ≡ registersIn (recordAt (view (a .m .now)) (a .position)) .place
-placed c =
-    let at-start = c .before .before in
-    let m = at-start .args .m .now in
-    let s = at-start .pre .1 .0 in
-    c .place-of .ensures (view m) (memory-sized m s) (s .state-sound .S1 .records-within _) (s .laid-out)
-
--- what the decoder answers, of the code in the memory
-decoded : (c : tie.After-decode)
-    → let code = view (c .before .before .before .before .args .m .now) .code in
-    let place = c .before .before .place-of .result in
-    meaning code place (c .decode .result) ≡ decode code place
-decoded c =
-    let at-code = c .before in
-    let place = at-code .before .place-of .result in
-    subst (λ (code : List ℕ). meaning code place (c .decode .result) ≡ decode code place) (at-code .code .ensures) (c .decode .ensures)
-
 returns : tie.Need-returns
 returns c z h =
-    let at-told = c .before in
-    let at-decode = at-told .before .before in
-    let at-place = at-decode .before .before in
-    let at-start = at-place .before .before in
-    let a = at-start .args in
-    let st = view (a .m .now) in
-    let place = at-place .place-of .result in
-    let is = ap (meaning (st .code) place) (sym (at-told .enum-told .given .1)) ∙ decoded at-decode in
-    undecoded (a .position) z (record-prints st (a .position) place _ z (at-start .pre .0 .1) (placed at-place) is h)
+    let at-if = c .before in
+    let at-code = at-if .before in
+    let at-place = at-code .before in
+    let a = at-place .before .before .args in
+    let past = subst (λ (l : List ℕ). length l ≤ at-place .place-of .result) (at-code .code .ensures) (at-if .if1 .taken) in
+    past-code (view (a .m .now) .code) (at-place .place-of .result) (a .position) z past (told at-place z h)
+
+shared-slice-read-t6 : tie.Need-shared-slice-read-t6
+shared-slice-read-t6 c = search needs
 
 returns-2 : tie.Need-returns-2
 returns-2 c z h =
-    let at-i = c .before .before in
-    let at-decode = at-i .before .before in
-    let at-place = at-decode .before .before in
-    let at-start = at-place .before .before in
-    let a = at-start .args in
-    let st = view (a .m .now) in
+    let at-code = c .before .before in
+    let at-place = at-code .before in
+    let a = at-place .before .before .args in
     let place = at-place .place-of .result in
-    let is = ap (meaning (st .code) place) (sym (at-i .i .given .1)) ∙ decoded at-decode in
-    let told = record-prints st (a .position) place _ z (at-start .pre .0 .1) (placed at-place) is h in
-    let g = at-i .i .given .0 in
-    decoded-name (a .position) (instructionOf (st .code) place (g .0)) (g .1 .0) z (c .name-of .ensures (st .code) place) told
+    ap (λ (l : List ℕ). printed (a .position) (instruction-kind (nameIn (rowOf (getD l place 0)))) (pos 0)) (at-code .code .ensures)
+    ∙ first-named (view (a .m .now) .code) place (a .position) z (told at-place z h)
 
 pub of-record-spec : {M : Type 1} → statement M
 of-record-spec =
     tie.close
     (tie.spec
-    cast-t7
+    cast-t6
     place-of-requires
     cast-place
     code-requires
-    decode-requires
-    enum-told
     closed-requires
-    enum-known-i
-    name-of-requires
     returns
+    shared-slice-read-t6
     returns-2)

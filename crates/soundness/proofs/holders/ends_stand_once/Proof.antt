@@ -8,7 +8,7 @@ use Rattle.rules.specs.SoundTest.{every, placesTest}
 use Rattle.rules.specs.Layout.{view}
 use Rattle.canonical.proofs.Tests.{every-none, reached}
 use Rattle.soundness.proofs.Standing.{end-canonical, places-test}
-use Rattle.soundness.proofs.Turns.{turn-fails, turn-passes}
+use Rattle.canonical.proofs.Tests.{turn-fails, turn-passes}
 use borrow.Author.Needs.{needs}
 use Rattle.soundness.proofs.holders.ends_stand_once.Statement.{statement}
 use Rattle.soundness.proofs.holders.ends_stand_once.Tie as tie

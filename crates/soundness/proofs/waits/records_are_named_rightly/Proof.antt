@@ -9,7 +9,7 @@ use Rattle.rules.specs.Layout.{viewRegisters, view}
 use Rattle.canonical.specs.Canonical.{recordPart}
 use Rattle.canonical.proofs.Tests.{every-none, reached}
 use Rattle.soundness.proofs.Waiting.{waits-test}
-use Rattle.soundness.proofs.Turns.{turn-fails, turn-passes}
+use Rattle.canonical.proofs.Tests.{turn-fails, turn-passes}
 use borrow.Author.Needs.{needs}
 use Rattle.soundness.proofs.waits.records_are_named_rightly.Statement.{statement}
 use Rattle.soundness.proofs.waits.records_are_named_rightly.Tie as tie

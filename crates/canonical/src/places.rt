@@ -1,9 +1,0 @@
-// Bytes as numbers to reckon places with.
-ghost use mathlib.Core.Path.{_≡_};
-
-// A byte that is a count.
-pub fn wide(count: u8) -> usize
-    ensures { λ r. ⌜ r ≡ count ⌝ }
-{
-    count as usize
-}
