@@ -22,6 +22,9 @@ slice-aggregate-put-number-line c = search needs
 number-of-requires : tie.Need-number-of-requires
 number-of-requires c κs = search needs
 
+cast-put-number-line : tie.Need-cast-put-number-line
+cast-put-number-line c = search needs
+
 -- the number that is printed
 number : (c : tie.After-number-of)
     → let a = c .before .before .before .before .before .before .before .before .before .before .args in
@@ -62,6 +65,7 @@ load-spec =
     load-requires
     slice-aggregate-put-number-line
     number-of-requires
+    cast-put-number-line
     put-number-line-requires
     same-length
     same-length-2

@@ -30,6 +30,9 @@ slice-aggregate-put-number-line c = search needs
 number-of-requires : tie.Need-number-of-requires
 number-of-requires c κs = search needs
 
+cast-put-number-line : tie.Need-cast-put-number-line
+cast-put-number-line c = search needs
+
 put-number-line-requires : tie.Need-put-number-line-requires
 unfolding text
 put-number-line-requires c κs =
@@ -65,6 +68,7 @@ put-step-spec =
     put-decimal-requires
     slice-aggregate-put-number-line
     number-of-requires
+    cast-put-number-line
     put-number-line-requires
     same-length
     returns)
