@@ -7,9 +7,12 @@ use mathlib.Core.List.{List, [], _∷_}
 use Prim.Native.Nat.{ℕ, zero, suc, _+_, _*_, _<_}
 use native.Mathlib.Nat.{eq-or-lt-of-le, le-of-suc-le-suc}
 use native.Mathlib.Numerals.{add-one}
+use native.Mathlib.Decide.{ℕ-discrete}
 use native.Mathlib.Omega.{arith}
 use mathlib.Core.Logic.{_≢_, ⊎-elim}
 use lib.ListN.{length}
+use lib.Dec.{eqb}
+use borrow.Author.Tests.{eq-eqb, ne-eqb}
 use Rattle.rules.specs.Limits.{endCount}
 use Rattle.rules.specs.State.{State, EndState, free-end, used, isFreeEnd, isFreeRecord, recordAt}
 use Rattle.rules.specs.SoundTest.{all}
@@ -56,15 +59,23 @@ module _ (st : State) (n : length (st .ends) ≡ endCount) {word : ℕ} (is : wo
   full : freeWord (st .ends) ≡ 18446744073709551615 → freeWord (st .ends) ≡ allSet (length (st .ends))
   full e = e ∙ sym all-set ∙ ap allSet (sym n)
 
-  pub ends-free : word ≡ 18446744073709551615 → all isFreeEnd (st .ends) ≡ true
+  ends-free : word ≡ 18446744073709551615 → all isFreeEnd (st .ends) ≡ true
   ends-free e = free-of-word (st .ends) (full (sym is ∙ e))
 
-  pub end-used : word ≢ 18446744073709551615 → all isFreeEnd (st .ends) ≡ false
+  end-used : word ≢ 18446744073709551615 → all isFreeEnd (st .ends) ≡ false
   end-used e = go (all isFreeEnd (st .ends)) refl
     where
       go : (b : Bool) → all isFreeEnd (st .ends) ≡ b → all isFreeEnd (st .ends) ≡ false
       go true q = absurd (e (is ∙ word-of-free (st .ends) q ∙ ap allSet n ∙ all-set))
       go false q = q
+
+  -- one look at the word tells
+  pub word-tells : eqb word 18446744073709551615 ≡ all isFreeEnd (st .ends)
+  word-tells = go (ℕ-discrete word 18446744073709551615)
+    where
+      go : Dec (word ≡ 18446744073709551615) → eqb word 18446744073709551615 ≡ all isFreeEnd (st .ends)
+      go (yes e) = eq-eqb word 18446744073709551615 e ∙ sym (ends-free e)
+      go (no n) = ne-eqb word 18446744073709551615 n ∙ sym (end-used n)
 
 -- ---- the verdict
 
