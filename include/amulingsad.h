@@ -41,8 +41,8 @@ extern "C" {
 
 /* How a run came out. */
 #define AMUL_SPENT 0    /* something can step */
-#define AMUL_FINISHED 1 /* nothing can step, and no record is in use */
-#define AMUL_STUCK 2    /* nothing can step, and some record is in use */
+#define AMUL_FINISHED 1 /* nothing can step, and no record and no end is in use */
+#define AMUL_STUCK 2    /* nothing can step, and some record or some end is in use */
 
 /*
  * Fills the state memory with the start state and the code of a method image.

@@ -131,10 +131,10 @@ impl Machine {
             steps += 1;
             next = if position == 95 { 0 } else { position + 1 };
         }
-        let verdict = match (self.clone().step_from(next), self.used) {
-            (Some(_), _) => "spent",
-            (None, 0) => "finished",
-            (None, _) => "stuck",
+        let verdict = match (self.clone().step_from(next), self.used, self.free) {
+            (Some(_), _, _) => "spent",
+            (None, 0, u64::MAX) => "finished",
+            (None, _, _) => "stuck",
         };
         Outcome { verdict, steps, next }
     }

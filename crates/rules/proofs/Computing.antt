@@ -10,7 +10,7 @@ use Rattle.rules.specs.Causes.{ownCauses, sharedCauses}
 use Rattle.rules.specs.RecordStep.{lowestFree, after}
 use Rattle.rules.specs.EndStep.{meeting, endCauses, afterMeeting}
 use Rattle.rules.specs.Ask.{answerTo, askRecord, askEnd, ask}
-use Rattle.rules.specs.Run.{nextPosition, firstOf, nextStep, steps, reachedBy, positionAfter, allFree, verdictOf, ranBy, runFrom}
+use Rattle.rules.specs.Run.{nextPosition, firstOf, nextStep, steps, reachedBy, positionAfter, verdictOf, ranBy, runFrom}
 use Rattle.rules.specs.Count.{δ, total}
 use Rattle.rules.specs.Events.{instructionEvents, recordEvents, meetingEvents, endEvents, events, history}
 use Rattle.rules.specs.Sound.{placesOf, waitsNaming}
@@ -32,7 +32,7 @@ unfoldable pub computing : ℕ
 unfolding table flat pad pieces placesFrom freeEnds freeRecords start unless noCause formIn formOf lengths placesAt slotsAt
     instructionAt decode inSet keptBy overlap notTogether anyHeld anyOver anyEmpty listed anyRepeated allEmptied calleeSlots
     ownCauses sharedCauses lowestFree after meeting endCauses afterMeeting answerTo askRecord askEnd ask nextPosition firstOf nextStep
-    steps reachedBy positionAfter allFree verdictOf ranBy runFrom instructionEvents recordEvents meetingEvents endEvents events
+    steps reachedBy positionAfter verdictOf ranBy runFrom instructionEvents recordEvents meetingEvents endEvents events
     history δ total placesOf waitsNaming all every allTrue valueWithin datumWithin slotWithin registersWithin recordWithin
     lastWithin endWithin byteWithin within pairedIn pairedTest placesTest waitsTest standsNamed standsDecoded standsIn standsLast
     standsTest soundTest wordSum folded checkOf block blocks blockCount headed imageOf writeCauses written anyCheckWrong dataIn

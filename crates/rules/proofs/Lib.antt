@@ -7,3 +7,4 @@ pub mod Rows
 pub mod TestLaws
 pub mod SoundLaws
 pub mod Promises
+pub mod Unread

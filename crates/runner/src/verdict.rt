@@ -1,10 +1,12 @@
-// The verdict: spent if something can step, otherwise finished if no record is in use, else stuck. Whether something can step is tried on
-// a copy of the memory, so that no second set of tests stands beside the steps themselves.
+// The verdict: spent if something can step, otherwise finished if no record and no end is in use, else stuck. Whether something can step is
+// tried on a copy of the memory, so that no second set of tests stands beside the steps themselves.
 ghost use mathlib.Core.Path.{_≡_};
 ghost use mathlib.Core.Bool.{true};
 ghost use lib.ListN.{length};
+ghost use Rattle.rules.specs.State.{isFreeEnd, isFreeRecord};
 ghost use Rattle.rules.specs.Instruction.{lengths as lengthsOfRules};
-ghost use Rattle.rules.specs.Run.{allFree, nextStep, verdictOf};
+ghost use Rattle.rules.specs.SoundTest.{all};
+ghost use Rattle.rules.specs.Run.{nextStep, nothingInUse, verdictOf};
 ghost use Rattle.rules.specs.Layout.{stateSize, view};
 ghost use Rattle.keeping.specs.Demand3.{SoundMemory};
 ghost use Rattle.runner.specs.Runs.{verdictCode, steppedBy};
@@ -22,9 +24,9 @@ pub enum Verdict {
 }
 
 // No record is in use.
-fn all_free(m: &[u8]) -> bool
+fn records_are_free(m: &[u8]) -> bool
     requires { ⌜ (length (now m) ≡ stateSize) × SoundMemory (now m) ⌝ }
-    ensures { λ r. ⌜ r ≡ allFree (view (now (m .entry)) .records) ⌝ }
+    ensures { λ r. ⌜ r ≡ all isFreeRecord (view (now (m .entry)) .records) ⌝ }
 {
     let mut r = 0;
     while r < RECORD_COUNT as u8 {
@@ -35,6 +37,25 @@ fn all_free(m: &[u8]) -> bool
         r += 1;
     }
     true
+}
+
+// No end is in use: every bit of the word of free ends is set.
+fn ends_are_free(m: &[u8]) -> bool
+    requires { ⌜ (length (now m) ≡ stateSize) × SoundMemory (now m) ⌝ }
+    ensures { λ r. ⌜ r ≡ all isFreeEnd (view (now (m .entry)) .ends) ⌝ }
+{
+    ends::free_word(m) == u64::MAX
+}
+
+// No record and no end is in use.
+fn nothing_in_use(m: &[u8]) -> bool
+    requires { ⌜ (length (now m) ≡ stateSize) × SoundMemory (now m) ⌝ }
+    ensures { λ r. ⌜ r ≡ nothingInUse (view (now (m .entry))) ⌝ }
+{
+    if !records_are_free(m) {
+        return false;
+    }
+    ends_are_free(m)
 }
 
 // What a step from position 0 would be.
@@ -54,7 +75,7 @@ pub fn verdict_of(m: &[u8], lengths: &[u8; 256]) -> Verdict
     if let Stepped::At(_) = would_step(m, lengths) {
         return Verdict::Spent;
     }
-    if all_free(m) {
+    if nothing_in_use(m) {
         return Verdict::Finished;
     }
     Verdict::Stuck

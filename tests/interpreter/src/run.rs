@@ -34,9 +34,9 @@ impl Step {
 pub enum Verdict {
     /// Something can step.
     Spent,
-    /// Nothing can step, and no record is in use.
+    /// Nothing can step, and no record and no end is in use.
     Finished,
-    /// Nothing can step, and some record is in use.
+    /// Nothing can step, and some record or some end is in use.
     Stuck,
 }
 
@@ -119,6 +119,7 @@ impl State {
 
     /// The verdict where nothing can step.
     fn verdict_at_rest(&self) -> Verdict {
-        if self.records.in_use().next().is_none() { Verdict::Finished } else { Verdict::Stuck }
+        let nothing_in_use = self.records.in_use().next().is_none() && self.ends.in_use().next().is_none();
+        if nothing_in_use { Verdict::Finished } else { Verdict::Stuck }
     }
 }

@@ -23,10 +23,11 @@ fn plain_run(state: &mut State, budget: u16, start: u32) -> Run {
     }
     let mut trial = state.clone();
     let something_can_step = (0..96).any(|position| can_step(&mut trial, position));
-    let verdict = match state.records().in_use().next() {
-        _ if something_can_step => Verdict::Spent,
-        None => Verdict::Finished,
-        Some(_) => Verdict::Stuck,
+    let nothing_in_use = state.records().in_use().count() + state.ends().in_use().count() == 0;
+    let verdict = match something_can_step {
+        true => Verdict::Spent,
+        false if nothing_in_use => Verdict::Finished,
+        false => Verdict::Stuck,
     };
     Run { steps, next, verdict }
 }

@@ -21,8 +21,8 @@ returns c =
 enum-told-2 : tie.Need-enum-told-2
 enum-told-2 c = search needs
 
-all-free-requires : tie.Need-all-free-requires
-all-free-requires c κs = search needs
+nothing-in-use-requires : tie.Need-nothing-in-use-requires
+nothing-in-use-requires c κs = search needs
 
 returns-2 : tie.Need-returns-2
 returns-2 c =
@@ -31,7 +31,7 @@ returns-2 c =
     let at-would = at-told .before .before in
     let m = at-would .before .before .args .m .now in
     is-finished (view m) (sym (at-told .enum-told2 .given .1) ∙ at-would .would-step .ensures)
-    (sym (at-free .all-free .ensures) ∙ c .if1 .taken)
+    (sym (at-free .nothing-in-use .ensures) ∙ c .if1 .taken)
 
 returns-3 : tie.Need-returns-3
 returns-3 c =
@@ -40,8 +40,8 @@ returns-3 c =
     let at-would = at-told .before .before in
     let m = at-would .before .before .args .m .now in
     is-stuck (view m) (sym (at-told .enum-told2 .given .1) ∙ at-would .would-step .ensures)
-    (sym (at-free .all-free .ensures) ∙ c .if1 .left)
+    (sym (at-free .nothing-in-use .ensures) ∙ c .if1 .left)
 
 pub verdict-of-spec : {M : Type 1} → statement M
 verdict-of-spec =
-    tie.close (tie.spec would-step-requires enum-told returns enum-told-2 all-free-requires returns-2 returns-3)
+    tie.close (tie.spec would-step-requires enum-told returns enum-told-2 nothing-in-use-requires returns-2 returns-3)

@@ -1,15 +1,17 @@
 -- One record after the other. The invariant: the first r are free. Assumes nothing.
+use mathlib.Core.Path.{refl, sym}
 use Prim.Native.Nat.{_-_, _≤_}
 use native.Mathlib.Omega.{arith}
 use borrow.Author.Needs.{needs}
 use Rattle.rules.specs.Limits.{recordCount}
-use Rattle.rules.specs.State.{recordAt}
+use Rattle.rules.specs.State.{free-record, recordAt, isFreeRecord}
 use Rattle.rules.specs.Layout.{view}
+use Rattle.rules.proofs.TestLaws.{all-within, all-fails}
 use Rattle.registers.proofs.FreeRecords.{is-free, in-use, not-free}
 use Rattle.stepping.proofs.Steps.{memory-sized}
-use Rattle.runner.proofs.Verdicts.{FreeSoFar, one-more-free, none-in-use, one-in-use}
-use Rattle.runner.proofs.verdict.all_free.Statement.{statement}
-use Rattle.runner.proofs.verdict.all_free.Tie as tie
+use Rattle.runner.proofs.Verdicts.{FreeSoFar, one-more-free}
+use Rattle.runner.proofs.verdict.records_are_free.Statement.{statement}
+use Rattle.runner.proofs.verdict.records_are_free.Tie as tie
 
 abbrev Inv-loop : tie.InvT-loop
 Inv-loop m r₀ r = (r ≤ recordCount) × FreeSoFar (view m) r
@@ -37,8 +39,8 @@ returns c =
     let m = at-start .args .m .now in
     let s = at-start .pre .1 in
     let r = at-loop .loop .r in
-    one-in-use (view m .records) r
-    (in-use (recordAt (view m) r) (at-status .status-of .ensures (view m) (memory-sized m s) (s .laid-out)) (not-free (c .match .keys2)))
+    sym (all-fails isFreeRecord free-record refl (view m .records) r
+    (in-use (recordAt (view m) r) (at-status .status-of .ensures (view m) (memory-sized m s) (s .laid-out)) (not-free (c .match .keys2))))
 
 add-r : tie.Need-add-r Inv-loop μ-loop
 add-r c = search needs
@@ -65,11 +67,11 @@ returns-2 c =
     let l = c .before .loop in
     let at-start = c .before .before .before in
     let s = at-start .pre .1 in
-    none-in-use (view (at-start .args .m .now) .records)
-    (λ j h. l .inv .1 j (omega (arith, c .loop-test .left, h, s .state-sound .S1 .record-count)))
+    sym (all-within isFreeRecord free-record (view (at-start .args .m .now) .records)
+    (λ j h. l .inv .1 j (omega (arith, c .loop-test .left, h, s .state-sound .S1 .record-count))))
 
-pub all-free-spec : {M : Type 1} → statement M
-all-free-spec =
+pub records-are-free-spec : {M : Type 1} → statement M
+records-are-free-spec =
     tie.close
     (tie.spec
     Inv-loop
