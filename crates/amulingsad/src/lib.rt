@@ -1,5 +1,8 @@
 // The machine for hosts: the functions of include/amulingsad.h. Each returns document 01's number and writes further answers through
 // pointers, which a refused call leaves as they were. What is promised here is what `machine`, `runner` and `image` promise.
+
+#![tactic(auto)]
+
 ghost use Rattle.std.specs.Prelude.{◌≡◌};
 ghost use Rattle.rules.specs.Refusal.{number_of};
 ghost use Rattle.rules.specs.Calls.{load, write, call_record, call_end, call_free_ends, run_answer, call_run};

@@ -1,5 +1,8 @@
 // The console's answers: what a line is answered with, into a lent buffer, and what it does to the state memory. Both are defined in
 // specs/Answers.antt, for each command of the grammar of `commands`.
+
+#![tactic(auto)]
+
 mod bench; // bench.rt: the state memory as it is, and what is not understood
 mod lines; // lines.rt: the parts of an answer
 mod requests; // requests.rt: the requests of document 01

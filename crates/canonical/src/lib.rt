@@ -1,5 +1,8 @@
 // S1 of document 01 on bytes: every count and number is within its limit, and all that is not in use is zero. A memory that passes is the
 // layout of the state that it shows, and that state is within the limits (proofs/Memory.antt).
+
+#![tactic(auto)]
+
 ghost use Rattle.std.specs.Prelude.{◌≡◌, ◌<◌, length};
 ghost use Rattle.rules.specs.Limits.{record_count, end_count};
 ghost use Rattle.rules.specs.Slots.{in_set};

@@ -1,5 +1,8 @@
 // Document 01's decoder: the code is read forward from a place, and the answer is one instruction with the place after it, or bad (4).
 // What an answer means is in specs/Meaning.antt.
+
+#![tactic(auto)]
+
 ghost use Rattle.std.specs.Prelude.{◌≡◌};
 ghost use Rattle.rules.specs.Instruction.{lengths as lengthsOfRules, decode as decodedByRules};
 ghost use Rattle.code.specs.Meaning.{meaning};

@@ -1,5 +1,8 @@
 // What a line asks the console for. A line is understood exactly as specs/Asked.antt says; the bytes of a hex word go to the front of a
 // lent buffer, and the command says how many they are.
+
+#![tactic(auto)]
+
 ghost use Rattle.std.specs.Prelude.{◌≡◌, List, [], ℕ, ◌/◌, ◌≤◌, length, take};
 ghost use Rattle.text.specs.Digits.{number_in};
 ghost use Rattle.commands.specs.Asked.{asked, line_limit, number_limit, is_remark, name_in, bare_asked, full_asked};

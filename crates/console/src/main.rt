@@ -1,5 +1,8 @@
 // The console of a bench engineer: commands are read from standard input, one a line, and each is answered on standard output before the
 // next is looked at. The grammar is that of `commands`, specs/Asked.antt; the answers are those of `answers`, specs/Answers.antt.
+
+#![tactic(auto)]
+
 ghost use Rattle.std.specs.Prelude.{◌≡◌, ◌≤◌, length};
 ghost use Rattle.rules.specs.Layout.{state_size};
 ghost use Rattle.answers.specs.Sizes.{byte_size, output_size};

@@ -1,5 +1,8 @@
 // The method image of document 01: the writer, the reader, and the copy of an image's code. What an image is, when one is refused and with
 // which number is defined in `rules` (specs/Image.antt); what the answers stand for in specs/Answers.antt.
+
+#![tactic(auto)]
+
 mod block;
 mod reading;
 mod writing;

@@ -1,5 +1,8 @@
 // Loading a method: the image is read, and the memory is filled with the start state and the image's code. A refused image or a memory of
 // another length leaves the memory as it was.
+
+#![tactic(auto)]
+
 ghost use Rattle.std.specs.Prelude.{◌≡◌, ◌≤◌, length as length_of};
 ghost use Rattle.rules.specs.Limits.{code_limit};
 ghost use Rattle.rules.specs.State.{start};

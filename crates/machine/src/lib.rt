@@ -1,5 +1,8 @@
 // The public functions of the machine: load a method, ask a record or an end to step, count the free ends. They ask nothing of their
 // caller: a request that cannot be met gets document 01's number, in its order, and leaves all lent memory as it was.
+
+#![tactic(auto)]
+
 ghost use Rattle.std.specs.Prelude.{◌≡◌};
 ghost use Rattle.rules.specs.Calls.{record_answer, call_record, end_answer, call_end, call_free_ends};
 ghost use Rattle.rules.specs.Numbers.{reply_to};

@@ -1,6 +1,9 @@
 // Document 01's "A step at an end", on a memory known to be sound: the two heads of a pair must match, and are removed. What is
 // promised is in specs/Stepped.antt; what the heads make is read in `heads`, what the waiting record wants in `wanted`, and the
 // changes of the memory are in `steps`.
+
+#![tactic(auto)]
+
 ghost use Rattle.std.specs.Prelude.{◌≡◌, ◌<◌};
 ghost use Rattle.std.proofs.Math.Option.{some};
 ghost use Rattle.rules.specs.Limits.{end_count};

@@ -1,5 +1,8 @@
 // The lent state memory as a whole: its length, the start state, and the code in it. What stands where is docs/STATE.md and, as a
 // definition, `layout` of `rules`; records are worked on by `registers`, ends by `ends`.
+
+#![tactic(auto)]
+
 ghost use Rattle.std.specs.Prelude.{◌≡◌, [], ◌≤◌, length};
 ghost use Rattle.rules.specs.Limits.{code_limit};
 ghost use Rattle.rules.specs.Bytes.{bytes_of, number_at, flat, pad};

@@ -1,5 +1,8 @@
 // Instructions on numbers: cst, access, store here; add, mul, leq in arithmetic.rt. Each tests its refusals in the order of document 01's
 // numbers, then loads the registers, changes them by value and saves them. The memory is known to be sound.
+
+#![tactic(auto)]
+
 ghost use Rattle.std.specs.Prelude.{◌<◌};
 ghost use Rattle.rules.specs.Limits.{record_count};
 ghost use Rattle.rules.specs.Numbers.{record_number};

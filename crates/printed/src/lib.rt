@@ -1,6 +1,9 @@
 // What a step prints, as document 01's "One run in full" has it: read from the memory before the step is made (reading.rt), the step with
 // what it prints (forward.rt), its line as text in a lent buffer (lines.rt), and the whole text for an image (tracing.rt). The definitions
 // are those of `rules`, Printed.
+
+#![tactic(auto)]
+
 mod forward; // forward.rt: one step, and what it prints
 mod kinds; // kinds.rt: what is printed
 mod line_words; // line_words.rt: the words of a line, in one table

@@ -1,4 +1,7 @@
 // The instructions that change which processes there are, or which code one runs, each on a memory known to be sound: run, plug, same.
+
+#![tactic(auto)]
+
 mod calling; // calling.rt: run
 mod joining; // joining.rt: same
 mod plugging; // plugging.rt: plug

@@ -3,6 +3,9 @@
 // An instruction loads its record's registers as a whole, works on them by value and saves them: what `load`, the methods and the
 // saves do is said by the definitions of `rules`, for every state that the memory holds. Nobody above this crate counts bytes of a record.
 // Inner functions ask plain facts of their caller: the memory's length, a number below its limit, a count with room.
+
+#![tactic(auto)]
+
 mod listed;
 mod process;
 mod records;

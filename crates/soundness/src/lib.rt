@@ -1,4 +1,7 @@
 // The soundness test of document 01, S1 to S5, on any memory of the right length.
+
+#![tactic(auto)]
+
 ghost use Rattle.std.specs.Prelude.{◌≡◌, length};
 ghost use Rattle.rules.specs.Layout.{state_size};
 ghost use Rattle.rules.specs.Calls.{sound_bytes};

@@ -1,5 +1,8 @@
 // What the functions that step one record share: the translation of a local slot to an end, and the code's slice. The form of their
 // promise is in specs/, the laws that each of them cites are in proofs/.
+
+#![tactic(auto)]
+
 ghost use Rattle.std.specs.Prelude.{◌≡◌};
 ghost use Rattle.rules.specs.State.{Registers as Process, end_in};
 ghost use Rattle.rules.specs.Layout.{view};

@@ -1,5 +1,8 @@
 // Bytes and numbers as text, for the programs: printing into a lent buffer, and reading what a line says. A function asks for the room that
 // it needs; what is printed is defined in `rules` (specs/Text.antt) and specs/Written.antt, what a text says in specs/Digits.antt.
+
+#![tactic(auto)]
+
 mod printing;
 mod reading;
 

@@ -1,5 +1,8 @@
 // The printing program: a method image is read from standard input, and its run is printed, as document 01's "One run in full" has it.
 // What is printed is made, and proved, in `printed`.
+
+#![tactic(auto)]
+
 use libc::{STDIN_FILENO, STDOUT_FILENO};
 use printed::TRACE_LIMIT;
 

@@ -1,5 +1,8 @@
 // The stored images, each with all that the printing program writes for it. Their names are the arguments, the images stand in data/,
 // and what has to come out is in stdout: the name of an image, then its text. The texts were made by an interpreter in another language.
+
+#![tactic(auto)]
+
 ghost use Rattle.std.specs.Prelude.{◌≤◌, length};
 ghost use Rattle.printed.specs.Traced.{trace_limit};
 

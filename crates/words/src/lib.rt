@@ -1,5 +1,8 @@
 // Numbers in a slice of bytes: read and written at an offset, the low byte first, and where a name ends in `_high` the high byte first.
 // Each function asks that its bytes lie within the slice: its callers prove that. A write leaves all other bytes as they were.
+
+#![tactic(auto)]
+
 ghost use Rattle.std.specs.Prelude.{◌≡◌, ◌+◌, ◌≤◌, ◌<◌, length, get_or, set};
 ghost use Rattle.std.specs.Int.{w32};
 ghost use Rattle.std.proofs.Common.{to_z, of_z};
