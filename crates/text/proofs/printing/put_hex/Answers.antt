@@ -1,0 +1,26 @@
+-- `put_hex` puts one byte after the other. The invariant: the first i are put. Assumes nothing.
+use Rattle.std.proofs.Common.{◌≡◌, refl, ◌-◌, ◌≤◌, arith, length, take, rules}
+use Rattle.text.proofs.Hex.{hex_more, hex_written}
+use Rattle.rules.specs.Bytes.{flat}
+use Rattle.words.specs.Parts.{put_at}
+use Rattle.text.specs.Written.{hex_byte}
+use Rattle.text.proofs.printing.put_hex.Goals as goal
+
+pub loop-i-init : goal.loop-i-init
+unfolding flat
+loop-i-init c = (omega arith, refl, refl)
+
+pub loop-i-preserved : goal.loop-i-preserved
+loop-i-preserved c =
+    let a = c.args in
+    let l = c.loop-i in (
+      omega arith,
+      omega arith,
+      hex_more a.out.now a.at a.bytes.now l.i (omega arith) l.invariant.2 c.put_byte.ensures,
+    )
+
+pub returns : goal.returns
+returns c =
+    let l = c.loop-i in
+    let a = c.args in
+    hex_written a.at a.bytes.now l.i (omega arith) (omega arith) l.invariant.2

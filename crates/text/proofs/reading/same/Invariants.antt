@@ -1,0 +1,11 @@
+-- `same` compares one byte after the other. The invariant: the words are the same exactly if they are behind the first i. Assumes nothing.
+use Rattle.std.proofs.Common.{◌≡◌, refl, ◌-◌, ◌≤◌, arith, length, drop, rules}
+use Rattle.rules.specs.Calls.{same_bytes}
+use Rattle.text.proofs.Words.{same_shorter, same_passed, same_other, same_all}
+use Rattle.text.proofs.reading.same.Given as goal
+
+abbrev pub invariant-loop-i : goal.invariant-loop-i
+invariant-loop-i l = (l.i ≤ length l.a) × (same_bytes l.a l.b ≡ same_bytes (drop l.i l.a) (drop l.i l.b))
+
+abbrev pub decreases-loop-i : goal.decreases-loop-i
+decreases-loop-i l = length l.a - l.i
