@@ -1,0 +1,8 @@
+-- `fold` is `folded`. Assumes nothing.
+use Rattle.std.proofs.Common.{refl, rules}
+use Rattle.rules.specs.Image.{folded}
+use Rattle.image.proofs.block.fold.Goals as goal
+
+pub returns : goal.returns
+unfolding folded
+returns c = refl

@@ -1,0 +1,21 @@
+-- `word_sum` adds the words up from the front. The invariant: what is added up and the sum of the words left are the sum of all, and each
+use Rattle.std.proofs.Common.{◌≡◌, ◌+◌, ◌*◌, ◌-◌, ◌≤◌, arith, drop, rules}
+use Rattle.rules.specs.Image.{word_sum}
+use Rattle.image.proofs.Checks.{sum_next, sum_end}
+use Rattle.image.proofs.block.word_sum.Goals as goal
+
+pub loop-i-preserved : goal.loop-i-preserved
+loop-i-preserved c =
+    let bytes = c.args.bytes.now in
+    let i = c.loop-i.i in
+    let word = sum_next bytes (2 * i) (omega arith) in
+    let e : 2 * i + 2 ≡ 2 * (i + 1) = omega arith in
+    (omega arith, omega arith, rw (← e) (omega arith))
+
+pub returns : goal.returns
+returns c =
+    let none = sum_end c.args.bytes.now (2 * c.loop-i.i) (omega arith) in
+    record {
+      value = omega arith;
+      upper_bound = omega arith;
+    }

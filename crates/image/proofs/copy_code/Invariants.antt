@@ -1,0 +1,16 @@
+-- `copy_code` copies one run of the code for each block. The invariant: data up to p is copied, which for i blocks is all of theirs, but
+use Rattle.std.proofs.Common.{◌≡◌, refl, sym, ◌∙◌, ◌+◌, ◌-◌, ◌*◌, ◌≤◌, min, max, arith, length, take, length-take, take_all, rules}
+use Rattle.words.specs.Parts.{put_at}
+use Rattle.rules.specs.Image.{data_size, head_size, blocks_in, code_length, code_in}
+use Rattle.image.proofs.Right.{Right, right_of}
+use Rattle.image.proofs.Data.{length_is, code_size}
+use Rattle.image.proofs.Copies.{ends, Run, run_is, next_run}
+use Rattle.image.proofs.copy_code.Given as goal
+
+abbrev pub invariant-loop-i : goal.invariant-loop-i
+invariant-loop-i l =
+    (l.i ≤ l.count) × (l.p ≡ max head_size (min (data_size * l.i) l.end)) × (length l.out ≡ length l.initial.out)
+    × (l.out ≡ put_at l.initial.out l.at (take (l.p - head_size) (code_in l.image)))
+
+abbrev pub decreases-loop-i : goal.decreases-loop-i
+decreases-loop-i l = l.count - l.i

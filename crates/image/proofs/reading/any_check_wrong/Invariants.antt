@@ -1,0 +1,12 @@
+-- `any_check_wrong` looks at the blocks from the front. The invariant: the blocks before i are right, so that a wrong one is among the n
+use Rattle.std.proofs.Common.{◌≡◌, sym, ap, ◌∙◌, ℕ, suc, ◌+◌, ◌*◌, ◌-◌, ◌≤◌, arith, take, drop, length-drop, length-take-le, rules}
+use borrow.Author.Tests.{not-true, not-false}
+use Rattle.rules.specs.Image.{block_size, any_check_wrong}
+use Rattle.image.proofs.Checks.{is_right, checks_next, checks_stop, checks_end}
+use Rattle.image.proofs.reading.any_check_wrong.Given as goal
+
+abbrev pub invariant-loop-i : goal.invariant-loop-i
+invariant-loop-i l = (l.i ≤ l.count) × ((n : ℕ) → l.i + n ≡ l.count → any_check_wrong l.count l.image ≡ any_check_wrong n (drop (block_size * l.i) l.image))
+
+abbrev pub decreases-loop-i : goal.decreases-loop-i
+decreases-loop-i l = l.count - l.i

@@ -1,0 +1,11 @@
+-- `fill` writes the data byte by byte. The invariant: the first i bytes are written. Assumes nothing.
+use Rattle.std.proofs.Common.{◌≡◌, refl, ◌∙◌, ℕ, ◌+◌, ◌-◌, ◌≤◌, arith, length, get_or, length-set, rules}
+use Rattle.words.proofs.Tables.{Filled, filled_none, filled_more, filled_all}
+use Rattle.rules.specs.Image.{headed}
+use Rattle.image.proofs.Writes.{data_from}
+use Rattle.image.proofs.writing.fill.Goals as goal
+
+pub returns : goal.returns
+returns c =
+    let a = c.args in
+    filled_all c.loop-i.invariant.2 (omega arith) ∙ data_from (length a.bytes.now) a.from (headed a.code.now)

@@ -1,0 +1,14 @@
+-- `write_blocks` writes one block after the other. The invariant: the first i are written, and all behind them is as it was.
+use Rattle.std.proofs.Common.{◌≡◌, refl, ap, ◌∙◌, ◌++◌, ℕ, ◌+◌, ◌-◌, ◌*◌, ◌≤◌, arith, length, drop, length-drop, length-take-le, rules}
+use Rattle.rules.specs.Bytes.{pad}
+use Rattle.rules.specs.Image.{block_size, data_size, headed, blocks}
+use Rattle.image.proofs.Writes.{blocks_more, blocks_size}
+use Rattle.image.proofs.writing.write_blocks.Given as goal
+
+abbrev pub invariant-loop-i : goal.invariant-loop-i
+invariant-loop-i l =
+    (l.i ≤ l.count) × (length l.out ≡ length l.initial.out)
+    × (l.out ≡ blocks l.i (pad (data_size * l.count) 0 (headed l.code)) ++ drop (block_size * l.i) l.initial.out)
+
+abbrev pub decreases-loop-i : goal.decreases-loop-i
+decreases-loop-i l = l.count - l.i
