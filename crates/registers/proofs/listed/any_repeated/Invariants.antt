@@ -1,0 +1,11 @@
+-- `any_repeated` looks for one listed slot after the other behind it. The invariant: some is repeated exactly if one behind the first k
+use Rattle.std.proofs.Common.{◌≡◌, refl, sym, ap, ◌∙◌, ◌+◌, ◌-◌, ◌≤◌, arith, length, get_or, drop, length-drop, take_all, rules}
+use Rattle.rules.specs.Slots.{listed as inList, any_repeated}
+use Rattle.registers.proofs.Search.{found, passed, none_found, repeated_search}
+use Rattle.registers.proofs.listed.any_repeated.Given as goal
+
+abbrev pub invariant-loop-k : goal.invariant-loop-k
+invariant-loop-k l = (l.k ≤ length l.listed) × (any_repeated l.listed ≡ any_repeated (drop l.k l.listed))
+
+abbrev pub decreases-loop-k : goal.decreases-loop-k
+decreases-loop-k l = length l.listed - l.k

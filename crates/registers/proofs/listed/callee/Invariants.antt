@@ -1,0 +1,20 @@
+-- `callee` fills the slots one after the other. The invariant: the first k are those of the callee. Assumes nothing.
+use Rattle.std.proofs.Common.{◌≡◌, refl, ap, ◌∙◌, ℕ, ◌-◌, ◌≤◌, arith, length, get_or, rules}
+use mathlib.Core.Option.{none}
+use Rattle.rules.specs.Limits.{slot_count}
+use Rattle.rules.specs.Slots.{Slots, callee_slots}
+use Rattle.rules.specs.Layout.{optional}
+use Rattle.words.proofs.Tables.{Filled, filled_none, filled_more}
+use Rattle.registers.specs.Registers.{slot_bytes}
+use Rattle.registers.proofs.SlotLaws.{slots_are}
+use Rattle.registers.proofs.ListedLaws.{callee_slot}
+use Rattle.registers.proofs.listed.callee.Given as goal
+
+abbrev pub invariant-loop-k : goal.invariant-loop-k
+invariant-loop-k at =
+    (at.k ≤ slot_count) × (length at.slots ≡ slot_count)
+    × ((l : Slots) → length l ≡ slot_count → at.held ≡ slot_bytes l
+    → Filled 0 slot_count (λ (j : ℕ). optional (get_or (callee_slots l at.listed) j none)) at.slots at.k)
+
+abbrev pub decreases-loop-k : goal.decreases-loop-k
+decreases-loop-k l = slot_count - l.k

@@ -1,0 +1,9 @@
+-- `save_running` saves with the status of a record that runs. Assumes nothing.
+use Rattle.std.proofs.Common.{◌∙◌, rules}
+use Rattle.rules.specs.State.{running}
+use Rattle.rules.specs.Numbers.{record_number}
+use Rattle.registers.proofs.WriteLaws.{record_saved}
+use Rattle.registers.proofs.records.save_running.Goals as goal
+
+pub returns : goal.returns
+returns c st g z e x = c.save.ensures g x ∙ record_saved st z (record_number c.args.r) (running g) c.requires.1 e

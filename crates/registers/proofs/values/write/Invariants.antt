@@ -1,0 +1,17 @@
+-- `values::write` stores the values one after the other. The invariant: the first k are written. Assumes nothing.
+use Rattle.std.proofs.Common.{◌≡◌, refl, ◌∙◌, List, ℕ, ◌+◌, ◌-◌, ◌*◌, ◌≤◌, ◌<◌, arith, pos, length, get_or, take, take_all, w32, of_z, SFits, to_z-of_z, rules}
+use Rattle.rules.specs.Limits.{stack_depth}
+use Rattle.rules.specs.Bytes.{bytes_of, flat}
+use Rattle.rules.specs.State.{Value}
+use Rattle.rules.specs.Layout.{value_size, value_bytes}
+use Rattle.words.specs.Parts.{put_at}
+use Rattle.words.proofs.Pieces.{put_more}
+use Rattle.keeping.proofs.LayoutLaws.{length_value}
+use Rattle.registers.proofs.ValueLaws.{moved, values_fit}
+use Rattle.registers.proofs.values.write.Given as goal
+
+abbrev pub invariant-loop-k : goal.invariant-loop-k
+invariant-loop-k l = (l.k ≤ stack_depth) × (length l.m ≡ length l.initial.m) × (l.m ≡ put_at l.initial.m l.at (flat value_bytes (take l.k l.values)))
+
+abbrev pub decreases-loop-k : goal.decreases-loop-k
+decreases-loop-k l = stack_depth - l.k
