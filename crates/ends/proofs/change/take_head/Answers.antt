@@ -1,0 +1,17 @@
+-- `take_head` moves the cells up by one and writes the count. Assumes nothing.
+use Rattle.std.proofs.Common.{◌≡◌, sym, ap, ◌∙◌, rules}
+use Rattle.rules.specs.State.{end_at, queue_length}
+use Rattle.rules.specs.Layout.{layout}
+use Rattle.ends.proofs.Shown.{count_is, cells_are}
+use Rattle.ends.proofs.Changes.{take_none, take_written}
+use Rattle.ends.proofs.change.take_head.Goals as goal
+
+pub returns : goal.returns
+returns c st z laid fits =
+    let a = c.args in
+    let e = a.end.0 in
+    let inside = c.requires.1 in
+    let count = c.queued-count.ensures.value ∙ count_is st z a.m.now laid e inside in
+    let cells = c.get_cells-c.ensures ∙ cells_are st z a.m.now laid e inside fits in
+    take_written st z e inside laid fits c.queued-count.result c.get_cells-c.result count cells
+    c.put_cells.ensures c.put_count.ensures

@@ -1,0 +1,12 @@
+-- `queued` is the count that the bytes show. Assumes nothing.
+use Rattle.std.proofs.Common.{◌∙◌, rules}
+use Rattle.ends.proofs.Shown.{count_is}
+use Rattle.ends.proofs.reading.queued.Goals as goal
+
+pub returns : goal.returns
+returns c =
+    let a = c.args in
+    record {
+      value = c.get8.ensures;
+      value_2 = λ st z e. c.get8.ensures ∙ count_is st z a.m.now e a.end.0 c.requires.1;
+    }

@@ -1,0 +1,10 @@
+-- `get_cells` fills an array. The invariant: the first cells are read. Assumes nothing.
+use Rattle.std.proofs.Common.{◌-◌, ◌≤◌, arith, refl, rules}
+use Rattle.rules.specs.Limits.{queue_depth}
+use Rattle.words.proofs.Tables.{Filled, filled_none, filled_more, filled_all}
+use Rattle.ends.specs.Sections.{cell_in, cells_in}
+use Rattle.ends.proofs.section.get_cells.Goals as goal
+
+pub returns : goal.returns
+unfolding cells_in
+returns c = filled_all c.loop-index.invariant.1 (omega arith)
