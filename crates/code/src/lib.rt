@@ -21,14 +21,14 @@ pub use lengths::{LENGTHS, length_table};
 pub use listed::{case_place, listed_slot};
 
 // What a branch of a fork or a plug goes on with: its set of slots, bit i for slot i, and its place.
-#[derive(Drop)]
+#[derive(Clone, Copy)]
 pub struct Branch {
     pub set: u8,
     pub place: u16,
 }
 
 // One case for each row of document 01's table. The places of an hcase and the slots of a run stay in the code.
-#[derive(Drop)]
+#[derive(Clone, Copy)]
 pub enum Instruction {
     Cst(i32),
     Access(u8),
@@ -65,7 +65,7 @@ pub enum Instruction {
     Run(u16, u8, u8),
 }
 
-#[derive(Drop)]
+#[derive(Clone, Copy)]
 pub enum Decoded {
     // an instruction, and the place after it
     Good(Instruction, usize),

@@ -20,7 +20,7 @@ pub struct Taken<'a> {
 }
 
 // What is found at a place, and the place where reading goes on: after an instruction, at the same place where there is none.
-#[derive(Drop)]
+#[derive(Clone, Copy)]
 struct Found {
     decoded: Decoded,
     place: usize,

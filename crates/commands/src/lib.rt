@@ -26,7 +26,7 @@ const SPACE: u8 = 32;
 const REMARK_SIGN: u8 = b'#';
 
 // A command that is understood, or none.
-#[derive(Drop)]
+#[derive(Clone, Copy)]
 pub enum Command {
     Unknown,
     // a line for whoever reads the script
@@ -46,7 +46,7 @@ pub enum Command {
 }
 
 // The name of a command that takes words.
-#[derive(Drop)]
+#[derive(Clone, Copy)]
 pub enum Name {
     Load,
     Write,

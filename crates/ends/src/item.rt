@@ -6,7 +6,7 @@ use rules::{End, Record};
 use words::{bits, signed};
 
 // A value, a handle, a split with two ends, a close, or a wait naming a record.
-#[derive(Drop)]
+#[derive(Clone, Copy)]
 pub enum Item {
     Value(i32),
     Handle(u8),
@@ -16,7 +16,7 @@ pub enum Item {
 }
 
 // What heads a queue: nothing, or an item.
-#[derive(Drop)]
+#[derive(Clone, Copy)]
 pub enum Head {
     Empty,
     Item(Item),

@@ -67,7 +67,7 @@ pub fn taken(word: u64, end: End) -> u64
 }
 
 // The four lowest free ends, for a split; with fewer free, the number of ends for those that are missing.
-#[derive(Drop)]
+#[derive(Clone, Copy)]
 pub struct FourEnds {
     pub p: End,
     pub q: End,

@@ -20,7 +20,7 @@ use block::{DATA_SIZE, HEAD_SIZE};
 use rules::{BLOCK_CHECK, CODE_LENGTH, CODE_LIMIT, IMAGE_LENGTH, OUTPUT_SHORT, Reply};
 
 // What the reader finds.
-#[derive(Drop)]
+#[derive(Clone, Copy)]
 pub enum Found {
     // A right image: the length of its code. The code stands behind the head, with the two bytes of a check behind each 510 of data.
     Code { length: usize },

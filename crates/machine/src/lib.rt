@@ -15,7 +15,7 @@ use rules::offsets::STATE_SIZE;
 use rules::{Reply, STATE_LENGTH, UNSOUND};
 
 // How many ends are free, and the lowest of them (64 with none free), or one of document 01's numbers.
-#[derive(Drop)]
+#[derive(Clone, Copy)]
 pub enum FreeEnds {
     Counted { count: u8, lowest: u8 },
     Refused(u8),

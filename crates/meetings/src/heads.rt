@@ -9,14 +9,14 @@ use ends::Item;
 use rules::{End, Record};
 
 // What is put on a queue and taken from it.
-#[derive(Drop)]
+#[derive(Clone, Copy)]
 pub enum Datum {
     Value(i32),
     Handle(u8),
 }
 
 // What two heads make. The registers that a record runs on with are not in here: what it wants is looked at when the step is made.
-#[derive(Drop)]
+#[derive(Clone, Copy)]
 pub enum Meeting {
     Mismatch,
     // the datum at the head of `from` meets the wait of a record at the head of `to`

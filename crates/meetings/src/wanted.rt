@@ -11,7 +11,7 @@ ghost use Rattle.meetings.specs.Wanted.{wanted_by, wanted_of};
 use code::{Branch, Decoded, Instruction};
 use rules::Slot;
 
-#[derive(Drop)]
+#[derive(Clone, Copy)]
 pub enum Wanted {
     Nothing,
     // a value; the record then goes on at this place

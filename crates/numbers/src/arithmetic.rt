@@ -19,7 +19,7 @@ use registers::Registers;
 use rules::{FEW_VALUES, OUTSIDE, Record, Reply};
 
 // What is made of the two values on top.
-#[derive(Drop)]
+#[derive(Clone, Copy)]
 enum Made {
     Sum,
     Product,

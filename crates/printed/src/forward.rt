@@ -14,7 +14,7 @@ use rules::offsets::STATE_SIZE;
 use runner::{Stepped, step_from};
 
 // Nothing can step, or a step was made, and this is what it prints.
-#[derive(Drop)]
+#[derive(Clone, Copy)]
 pub enum Forward {
     Nowhere,
     Stepped(Printed),

@@ -1,7 +1,7 @@
 // What a line says of a step.
 
 // The instruction whose first byte this is, or what was delivered at an end.
-#[derive(Drop)]
+#[derive(Clone, Copy)]
 pub enum Kind {
     Instruction(u8),
     Value,
@@ -11,7 +11,7 @@ pub enum Kind {
 }
 
 // The position asked, the kind, and the number that a value or a handle is printed with, 0 for the others.
-#[derive(Drop)]
+#[derive(Clone, Copy)]
 pub struct Printed {
     pub position: u32,
     pub kind: Kind,

@@ -22,7 +22,7 @@ const TRACE_BUDGET: u16 = 60000;
 pub const TRACE_LIMIT: usize = 1740018;
 
 // Where the text ends, how many steps were made, and the position after the last.
-#[derive(Drop)]
+#[derive(Clone, Copy)]
 struct Lines {
     end: usize,
     made: u16,

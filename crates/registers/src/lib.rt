@@ -22,7 +22,7 @@ use rules::{ENVIRONMENT_DEPTH, SLOT_COUNT, STACK_DEPTH};
 pub use slots::{in_set, overlap};
 
 // The registers of one process.
-#[derive(Drop)]
+#[derive(Clone, Copy)]
 pub struct Registers {
     pub place: u16,
     pub stack_count: u8,

@@ -16,14 +16,14 @@ use crate::{Registers, listed, slots, values};
 use rules::{ENVIRONMENT_DEPTH, End, STACK_DEPTH, Slot};
 
 // What a local slot stands for: an end, or none.
-#[derive(Drop)]
+#[derive(Clone, Copy)]
 pub enum Held {
     Empty,
     Holds(End),
 }
 
 // The top value and the registers without it.
-#[derive(Drop)]
+#[derive(Clone, Copy)]
 pub struct Popped {
     pub value: i32,
     pub registers: Registers,

@@ -19,7 +19,7 @@ use rules::offsets::{
 use rules::{CODE_LIMIT, ENVIRONMENT_DEPTH, RECORD_COUNT, Record, SLOT_COUNT, STACK_DEPTH};
 
 // What a record is.
-#[derive(Drop)]
+#[derive(Clone, Copy)]
 pub enum Status {
     Free,
     Running,

@@ -14,7 +14,7 @@ use crate::verdict::{Verdict, verdict_of};
 use rules::{POSITION_COUNT, Reply, START_POSITION};
 
 // Steps made, the next position and the verdict, or one of document 01's numbers.
-#[derive(Drop)]
+#[derive(Clone, Copy)]
 pub enum Ran {
     Made {
         steps: u16,
@@ -25,7 +25,7 @@ pub enum Ran {
 }
 
 // How many steps were made, and the position after the last.
-#[derive(Drop)]
+#[derive(Clone, Copy)]
 struct Count {
     made: u16,
     next: u32,

@@ -17,7 +17,7 @@ use registers::Status;
 use rules::{End, POSITION_COUNT, RECORD_COUNT, Record, Reply};
 
 // Where a step was made, if one was.
-#[derive(Drop)]
+#[derive(Clone, Copy)]
 pub enum Stepped {
     Nowhere,
     At(u32),

@@ -14,7 +14,7 @@ use registers::Status;
 use rules::offsets::STATE_SIZE;
 use rules::{RECORD_COUNT, Record};
 
-#[derive(Drop)]
+#[derive(Clone, Copy)]
 pub enum Verdict {
     Spent,
     Finished,

@@ -12,7 +12,7 @@ use rules::offsets::{CELL_SIZE, COUNTS_AT, QUEUE_SIZE, QUEUES_AT};
 use rules::{End, Record};
 use words::get64;
 
-#[derive(Drop)]
+#[derive(Clone, Copy)]
 pub enum Last {
     Nothing,
     Split(End, End),

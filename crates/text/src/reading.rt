@@ -7,7 +7,7 @@ ghost use Rattle.text.specs.Digits.{length_before, digit_value, all_digits, valu
 ghost use Rattle.text.specs.Read.{number_read};
 
 // A number that was read, or a word that is none, or too large a one.
-#[derive(Drop)]
+#[derive(Clone, Copy)]
 pub enum Number {
     Is(u32),
     Bad,
