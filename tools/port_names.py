@@ -73,6 +73,9 @@ def imports(text, own):
     return out
 
 
+# names that an import gives with `as`, and local ones that no signature declares
+ALIASES = set("""accessOf addOf closeOf cstOf datumItem decodedByRules emptyOf fewerOf forkOf getOf haltOf hcaseOf hputOf inList leqOf
+lengthsOfRules mulOf overOf plugOf sameOf splitOf throughRecords throughEnds throughCode""".split())
 MADE = {"Statement", "Tie", "Goals", "Given", "TheVariants", "TheConstants"}
 
 
@@ -108,6 +111,7 @@ def main():
             names |= {n for n in declared(t) | locals_of(t) if odd(n)}
     for p, t in texts.items():
         foreign |= imports(t, own)
+    names |= ALIASES
     names -= KEEP
     both = sorted(n for n in names & foreign)
     into = {}
@@ -124,7 +128,7 @@ def main():
 
         def turn(m):
             w = m.group(0)
-            if w not in names or w in taken:
+            if w not in names or (w in taken and w not in ALIASES):
                 return w
             behind_dot = m.start() > 0 and m.string[m.start() - 1] == "."
             if w in STEPS and behind_dot and not p.endswith("canonical/proofs/Memory.antt"):

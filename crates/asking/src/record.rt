@@ -1,6 +1,6 @@
 // A record is asked to step: 2, 3, 4, or what its instruction says. A position is asked: the records come first, then the ends.
 ghost use Rattle.std.specs.Prelude.{◌≡◌, length};
-ghost use Rattle.rules.specs.Instruction.{lengths as lengthsOfRules};
+ghost use Rattle.rules.specs.Instruction.{lengths as lengths_of_rules};
 ghost use Rattle.rules.specs.Layout.{state_size};
 ghost use Rattle.rules.specs.Numbers.{record_number};
 ghost use Rattle.keeping.specs.Demand3.{SoundMemory};
@@ -16,7 +16,7 @@ use rules::{NO_INSTRUCTION, NO_RECORD, RECORD_COUNT, RECORD_WAITING, Record, Rep
 // The instruction at the place of a record that runs; 4 where there is none.
 fn step_running(m: &mut [u8], lengths: &[u8; 256], r: Record) -> Reply
     requires m_len { length m.old ≡ state_size }
-    requires sound_memory { SoundMemory m.old × (lengths.now ≡ lengthsOfRules) × RunsAt m.old (record_number r) }
+    requires sound_memory { SoundMemory m.old × (lengths.now ≡ lengths_of_rules) × RunsAt m.old (record_number r) }
     ensures { RecordStepped m.old (record_number r) result m.new }
 {
     let place = registers::place_of(m, r) as usize;
@@ -29,7 +29,7 @@ fn step_running(m: &mut [u8], lengths: &[u8; 256], r: Record) -> Reply
 // Any number may be asked.
 pub fn step_record(m: &mut [u8], lengths: &[u8; 256], record: u32) -> Reply
     requires m_len { length m.old ≡ state_size }
-    requires sound_memory { SoundMemory m.old × (lengths.now ≡ lengthsOfRules) }
+    requires sound_memory { SoundMemory m.old × (lengths.now ≡ lengths_of_rules) }
     ensures { RecordStepped m.old «record» result m.new }
 {
     if RECORD_COUNT as u32 <= record {
@@ -45,7 +45,7 @@ pub fn step_record(m: &mut [u8], lengths: &[u8; 256], record: u32) -> Reply
 
 pub fn step(m: &mut [u8], lengths: &[u8; 256], position: u32) -> Reply
     requires m_len { length m.old ≡ state_size }
-    requires sound_memory { SoundMemory m.old × (lengths.now ≡ lengthsOfRules) }
+    requires sound_memory { SoundMemory m.old × (lengths.now ≡ lengths_of_rules) }
     ensures { PositionStepped m.old position result m.new }
 {
     if position < RECORD_COUNT as u32 {

@@ -1,8 +1,8 @@
 // The refusals 5 to 11 of the instructions on channels: put, get, split, fork, close, halt, hput, hcase.
 ghost use Rattle.std.specs.Prelude.{◌≡◌, List, ℕ};
 ghost use Rattle.rules.specs.State.{Registers as Process};
-ghost use Rattle.rules.specs.Instruction.{put as put_of, get as getOf, split as splitOf, fork as forkOf};
-ghost use Rattle.rules.specs.Instruction.{close as closeOf, halt as haltOf, hput as hputOf, hcase as hcaseOf};
+ghost use Rattle.rules.specs.Instruction.{put as put_of, get as get_of, split as split_of, fork as fork_of};
+ghost use Rattle.rules.specs.Instruction.{close as close_of, halt as halt_of, hput as hput_of, hcase as hcase_of};
 ghost use Rattle.rules.specs.Sound.{RegistersWithin};
 ghost use Rattle.rules.specs.Numbers.{slot_number};
 ghost use Rattle.registers.specs.Registers.{registers_of};
@@ -31,7 +31,7 @@ pub fn put(held: Registers, c: Slot) -> Reply
 }
 
 pub fn get(held: Registers, c: Slot) -> Reply
-    ensures { (g : Process) → RegistersWithin g → held ≡ registers_of g → result ≡ own_reply g (getOf (slot_number c)) }
+    ensures { (g : Process) → RegistersWithin g → held ≡ registers_of g → result ≡ own_reply g (get_of (slot_number c)) }
 {
     if rows::stack_full(held) {
         return Reply::Refused(TOO_MANY_VALUES);
@@ -47,7 +47,7 @@ pub fn get(held: Registers, c: Slot) -> Reply
 
 pub fn split(held: Registers, c: Slot, a: Slot, b: Slot) -> Reply
     ensures { (g : Process) → RegistersWithin g → held ≡ registers_of g
-        → result ≡ own_reply g (splitOf (slot_number c) (slot_number a) (slot_number b)) }
+        → result ≡ own_reply g (split_of (slot_number c) (slot_number a) (slot_number b)) }
 {
     if rows::wrong_slots(held, c, a, b) {
         return Reply::Refused(WRONG_SLOT);
@@ -70,7 +70,7 @@ pub fn split(held: Registers, c: Slot, a: Slot, b: Slot) -> Reply
 pub fn fork(held: Registers, c: Slot, a: Slot, first: Branch, b: Slot, second: Branch) -> Reply
     ensures { (g : Process) → RegistersWithin g → held ≡ registers_of g
         → result ≡ own_reply g
-        (forkOf (slot_number c) (slot_number a) first.set first.place (slot_number b) second.set second.place) }
+        (fork_of (slot_number c) (slot_number a) first.set first.place (slot_number b) second.set second.place) }
 {
     if rows::wrong_slots(held, c, a, b) {
         return Reply::Refused(WRONG_SLOT);
@@ -94,7 +94,7 @@ pub fn fork(held: Registers, c: Slot, a: Slot, first: Branch, b: Slot, second: B
 }
 
 pub fn close(held: Registers, c: Slot) -> Reply
-    ensures { (g : Process) → RegistersWithin g → held ≡ registers_of g → result ≡ own_reply g (closeOf (slot_number c)) }
+    ensures { (g : Process) → RegistersWithin g → held ≡ registers_of g → result ≡ own_reply g (close_of (slot_number c)) }
 {
     if rows::over(c) {
         return Reply::Refused(WRONG_SLOT);
@@ -106,7 +106,7 @@ pub fn close(held: Registers, c: Slot) -> Reply
 }
 
 pub fn halt(held: Registers, c: Slot) -> Reply
-    ensures { (g : Process) → RegistersWithin g → held ≡ registers_of g → result ≡ own_reply g (haltOf (slot_number c)) }
+    ensures { (g : Process) → RegistersWithin g → held ≡ registers_of g → result ≡ own_reply g (halt_of (slot_number c)) }
 {
     if rows::over(c) {
         return Reply::Refused(WRONG_SLOT);
@@ -125,7 +125,7 @@ pub fn halt(held: Registers, c: Slot) -> Reply
 
 // Whatever handle is put.
 pub fn hput(held: Registers, c: Slot) -> Reply
-    ensures { (g : Process) (n : ℕ) → RegistersWithin g → held ≡ registers_of g → result ≡ own_reply g (hputOf (slot_number c) n) }
+    ensures { (g : Process) (n : ℕ) → RegistersWithin g → held ≡ registers_of g → result ≡ own_reply g (hput_of (slot_number c) n) }
 {
     if rows::over(c) {
         return Reply::Refused(WRONG_SLOT);
@@ -139,7 +139,7 @@ pub fn hput(held: Registers, c: Slot) -> Reply
 // Whatever places are listed.
 pub fn hcase(held: Registers, c: Slot) -> Reply
     ensures { (g : Process) (places : List ℕ) → RegistersWithin g → held ≡ registers_of g
-        → result ≡ own_reply g (hcaseOf (slot_number c) places) }
+        → result ≡ own_reply g (hcase_of (slot_number c) places) }
 {
     if rows::over(c) {
         return Reply::Refused(WRONG_SLOT);

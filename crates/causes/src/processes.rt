@@ -1,7 +1,7 @@
 // The refusals 5 to 11 of the instructions that change which processes there are, or which code one runs: plug, same, run.
 ghost use Rattle.std.specs.Prelude.{◌≡◌, ℕ};
 ghost use Rattle.rules.specs.State.{Registers as Process};
-ghost use Rattle.rules.specs.Instruction.{plug as plugOf, same as sameOf, run as run_of};
+ghost use Rattle.rules.specs.Instruction.{plug as plug_of, same as same_of, run as run_of};
 ghost use Rattle.rules.specs.Sound.{RegistersWithin};
 ghost use Rattle.rules.specs.Numbers.{slot_number};
 ghost use Rattle.registers.specs.Registers.{registers_of};
@@ -14,7 +14,7 @@ use rules::{ENDS_LOST_OR_DOUBLED, FEW_VALUES, Reply, STACK_NOT_EMPTY, Slot, WRON
 
 pub fn plug(held: Registers, a: Slot, first: Branch, second: Branch) -> Reply
     ensures { (g : Process) → RegistersWithin g → held ≡ registers_of g
-        → result ≡ own_reply g (plugOf (slot_number a) first.set first.place second.set second.place) }
+        → result ≡ own_reply g (plug_of (slot_number a) first.set first.place second.set second.place) }
 {
     if rows::over(a) {
         return Reply::Refused(WRONG_SLOT);
@@ -39,7 +39,7 @@ pub fn plug(held: Registers, a: Slot, first: Branch, second: Branch) -> Reply
 
 pub fn same(held: Registers, c: Slot, d: Slot) -> Reply
     ensures { (g : Process) → RegistersWithin g → held ≡ registers_of g
-        → result ≡ own_reply g (sameOf (slot_number c) (slot_number d)) }
+        → result ≡ own_reply g (same_of (slot_number c) (slot_number d)) }
 {
     if rows::over(c) {
         return Reply::Refused(WRONG_SLOT);

@@ -2,8 +2,8 @@
 ghost use Rattle.std.specs.Prelude.{◌≡◌, false, [], ◌∷◌, ◌<◌, eqb};
 ghost use Rattle.rules.specs.Limits.{slot_count};
 ghost use Rattle.rules.specs.State.{Registers as Process};
-ghost use Rattle.rules.specs.Slots.{over as overOf, emptied, not_together};
-ghost use Rattle.rules.specs.Causes.{fewer as fewerOf, stack_full, stack_not_empty, empty as emptyOf, taken as taken_of, others_held};
+ghost use Rattle.rules.specs.Slots.{over as over_of, emptied, not_together};
+ghost use Rattle.rules.specs.Causes.{fewer as fewer_of, stack_full, stack_not_empty, empty as empty_of, taken as taken_of, others_held};
 ghost use Rattle.rules.specs.Causes.{others_than_both_held};
 ghost use Rattle.rules.specs.Sound.{RegistersWithin};
 ghost use Rattle.rules.specs.Numbers.{slot_number};
@@ -15,7 +15,7 @@ use rules::{SLOT_COUNT, STACK_DEPTH, Slot};
 
 // 5: fewer stack values than the n needed.
 pub fn fewer(held: Registers, n: u8) -> bool
-    ensures { (g : Process) → RegistersWithin g → held ≡ registers_of g → result ≡ fewerOf n g }
+    ensures { (g : Process) → RegistersWithin g → held ≡ registers_of g → result ≡ fewer_of n g }
 {
     held.stack_count < n
 }
@@ -29,7 +29,7 @@ pub fn stack_full(held: Registers) -> bool
 
 // 8: slot c is over the last slot's number.
 pub fn over(c: Slot) -> bool
-    ensures { result ≡ overOf (slot_number c) }
+    ensures { result ≡ over_of (slot_number c) }
 {
     let n = c.0;
     SLOT_COUNT <= n as usize
@@ -37,7 +37,7 @@ pub fn over(c: Slot) -> bool
 
 // 8: slot c is empty.
 pub fn empty(held: Registers, c: Slot) -> bool
-    ensures { (g : Process) → RegistersWithin g → held ≡ registers_of g → result ≡ emptyOf (slot_number c) g }
+    ensures { (g : Process) → RegistersWithin g → held ≡ registers_of g → result ≡ empty_of (slot_number c) g }
 {
     match held.end_in(c) {
         Held::Empty => true,
@@ -49,7 +49,7 @@ pub fn empty(held: Registers, c: Slot) -> bool
 pub fn wrong_slots(held: Registers, c: Slot, a: Slot, b: Slot) -> bool
     ensures within { result ≡ false → (slot_number a < slot_count) × (slot_number b < slot_count) }
     ensures is { (g : Process) → RegistersWithin g → held ≡ registers_of g
-        → result ≡ any_of (overOf (slot_number c) ∷ overOf (slot_number a) ∷ overOf (slot_number b) ∷ emptyOf (slot_number c) g ∷ []) }
+        → result ≡ any_of (over_of (slot_number c) ∷ over_of (slot_number a) ∷ over_of (slot_number b) ∷ empty_of (slot_number c) g ∷ []) }
 {
     if over(c) {
         return true;

@@ -2,7 +2,7 @@
 ghost use Rattle.std.specs.Prelude.{ℕ, ◌<◌};
 ghost use Rattle.rules.specs.Limits.{record_count};
 ghost use Rattle.rules.specs.Numbers.{record_number, slot_number};
-ghost use Rattle.rules.specs.Instruction.{put as put_of, close as closeOf, halt as haltOf, hput as hputOf};
+ghost use Rattle.rules.specs.Instruction.{put as put_of, close as close_of, halt as halt_of, hput as hput_of};
 ghost use Rattle.keeping.specs.Demand3.{SoundMemory};
 ghost use Rattle.stepping.specs.Stepped.{Stepped};
 
@@ -31,7 +31,7 @@ pub fn put(m: &mut [u8], r: Record, c: Slot, next: u16) -> Reply
 // The slot is emptied behind its close.
 pub fn close(m: &mut [u8], r: Record, c: Slot, next: u16) -> Reply
     requires { SoundMemory m.old × (record_number r < record_count) }
-    ensures { Stepped m.old (record_number r) next (closeOf (slot_number c)) result m.new }
+    ensures { Stepped m.old (record_number r) next (close_of (slot_number c)) result m.new }
 {
     let held = registers::load(m, r);
     if let Reply::Refused(n) = causes::close(held, c) {
@@ -48,7 +48,7 @@ pub fn close(m: &mut [u8], r: Record, c: Slot, next: u16) -> Reply
 // The record is freed, so it goes on at no place: the contract says it for every `next`.
 pub fn halt(m: &mut [u8], r: Record, c: Slot) -> Reply
     requires { SoundMemory m.old × (record_number r < record_count) }
-    ensures { (next : ℕ) → Stepped m.old (record_number r) next (haltOf (slot_number c)) result m.new }
+    ensures { (next : ℕ) → Stepped m.old (record_number r) next (halt_of (slot_number c)) result m.new }
 {
     let held = registers::load(m, r);
     if let Reply::Refused(n) = causes::halt(held, c) {
@@ -64,7 +64,7 @@ pub fn halt(m: &mut [u8], r: Record, c: Slot) -> Reply
 // A handle is appended.
 pub fn hput(m: &mut [u8], r: Record, c: Slot, n: u8, next: u16) -> Reply
     requires { SoundMemory m.old × (record_number r < record_count) }
-    ensures { Stepped m.old (record_number r) next (hputOf (slot_number c) n) result m.new }
+    ensures { Stepped m.old (record_number r) next (hput_of (slot_number c) n) result m.new }
 {
     let held = registers::load(m, r);
     if let Reply::Refused(k) = causes::hput(held, c) {

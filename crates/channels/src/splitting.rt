@@ -5,7 +5,7 @@ ghost use Rattle.std.proofs.Math.Option.{none};
 ghost use Rattle.rules.specs.Limits.{record_count, end_count, slot_count, queue_depth};
 ghost use Rattle.rules.specs.State.{State, Registers as Process, registers, last, split_item, end_at, is_free_end, last_of};
 ghost use Rattle.rules.specs.Slots.{emptied, holding};
-ghost use Rattle.rules.specs.Instruction.{split as splitOf};
+ghost use Rattle.rules.specs.Instruction.{split as split_of};
 ghost use Rattle.rules.specs.RecordStep.{append, paired};
 ghost use Rattle.rules.specs.Layout.{state_size, layout};
 ghost use Rattle.rules.specs.Numbers.{record_number, slot_number, end_number};
@@ -65,7 +65,7 @@ fn split_at(m: &mut [u8], r: Record, held: Registers, c: Slot, a: Slot, b: Slot,
     requires holds_end { HoldsEnd m.old held (slot_number c) }
     requires r_bound { record_number r < record_count }
     ensures { (g : Process) → Runs m.old (record_number r) held g (slot_number c)
-        → SharedStep m.old (record_number r) next g (splitOf (slot_number c) (slot_number a) (slot_number b)) result m.new }
+        → SharedStep m.old (record_number r) next g (split_of (slot_number c) (slot_number a) (slot_number b)) result m.new }
 {
     let end = stepping::own_end(held, c);
     if QUEUE_DEPTH <= ends::queued(m, end) as usize {
@@ -83,7 +83,7 @@ fn split_at(m: &mut [u8], r: Record, held: Registers, c: Slot, a: Slot, b: Slot,
 
 pub fn split(m: &mut [u8], r: Record, c: Slot, a: Slot, b: Slot, next: u16) -> Reply
     requires { SoundMemory m.old × (record_number r < record_count) }
-    ensures { Stepped m.old (record_number r) next (splitOf (slot_number c) (slot_number a) (slot_number b)) result
+    ensures { Stepped m.old (record_number r) next (split_of (slot_number c) (slot_number a) (slot_number b)) result
         m.new }
 {
     let held = registers::load(m, r);

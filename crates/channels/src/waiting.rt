@@ -4,7 +4,7 @@ ghost use Rattle.std.specs.Prelude.{List, ℕ, ◌<◌};
 ghost use Rattle.rules.specs.Limits.{record_count};
 ghost use Rattle.rules.specs.State.{Registers as Process};
 ghost use Rattle.rules.specs.Numbers.{record_number, slot_number};
-ghost use Rattle.rules.specs.Instruction.{get as getOf, fork as forkOf, hcase as hcaseOf};
+ghost use Rattle.rules.specs.Instruction.{get as get_of, fork as fork_of, hcase as hcase_of};
 ghost use Rattle.keeping.specs.Demand3.{SoundMemory};
 ghost use Rattle.stepping.specs.Stepped.{Stepped};
 ghost use Rattle.channels.specs.Appending.{HoldsEnd, Runs, Waited};
@@ -31,7 +31,7 @@ fn wait_at(m: &mut [u8], r: Record, held: Registers, c: Slot) -> Reply
 
 pub fn get(m: &mut [u8], r: Record, c: Slot) -> Reply
     requires { SoundMemory m.old × (record_number r < record_count) }
-    ensures { (next : ℕ) → Stepped m.old (record_number r) next (getOf (slot_number c)) result m.new }
+    ensures { (next : ℕ) → Stepped m.old (record_number r) next (get_of (slot_number c)) result m.new }
 {
     let held = registers::load(m, r);
     if let Reply::Refused(n) = causes::get(held, c) {
@@ -44,7 +44,7 @@ pub fn get(m: &mut [u8], r: Record, c: Slot) -> Reply
 pub fn hcase(m: &mut [u8], r: Record, c: Slot) -> Reply
     requires { SoundMemory m.old × (record_number r < record_count) }
     ensures { (next : ℕ) (places : List ℕ)
-        → Stepped m.old (record_number r) next (hcaseOf (slot_number c) places) result m.new }
+        → Stepped m.old (record_number r) next (hcase_of (slot_number c) places) result m.new }
 {
     let held = registers::load(m, r);
     if let Reply::Refused(n) = causes::hcase(held, c) {
@@ -64,7 +64,7 @@ pub fn fork(
 ) -> Reply
     requires { SoundMemory m.old × (record_number r < record_count) }
     ensures { (next : ℕ) → Stepped m.old (record_number r) next
-        (forkOf (slot_number c) (slot_number a) first.set first.place (slot_number b) second.set second.place)
+        (fork_of (slot_number c) (slot_number a) first.set first.place (slot_number b) second.set second.place)
         result m.new }
 {
     let held = registers::load(m, r);

@@ -1,7 +1,7 @@
 // The seventeen forms of document 01's table: from the first byte to the instruction with its operands. Each function asks that the fixed
 // part lies in the code; what is listed behind it is tested here.
 ghost use Rattle.std.specs.Prelude.{◌≡◌, ◌+◌, ◌≤◌, ◌<◌, length};
-ghost use Rattle.rules.specs.Instruction.{byte_at, place_at, size_of, form_of, instruction_at, decode as decodedByRules};
+ghost use Rattle.rules.specs.Instruction.{byte_at, place_at, size_of, form_of, instruction_at, decode as decoded_by_rules};
 ghost use Rattle.rules.specs.Instruction.{split_name, fork_name, plug_name};
 ghost use Rattle.code.specs.Meaning.{instruction_of, meaning};
 
@@ -56,7 +56,7 @@ fn plug_at(code: &[u8], place: usize) -> Instruction
 // An hcase whose k places would be listed from `listed` on.
 fn hcase_at(code: &[u8], place: usize, listed: usize) -> Decoded
     requires { (byte_at code.now place 0 ≡ 0x19) × (listed ≡ place + 3) × (listed ≤ length code.now) }
-    ensures { meaning code.now place result ≡ decodedByRules code.now place }
+    ensures { meaning code.now place result ≡ decoded_by_rules code.now place }
 {
     let k = byte_at(code, place, 2);
     if k == 0 {
@@ -77,7 +77,7 @@ fn hcase_at(code: &[u8], place: usize, listed: usize) -> Decoded
 // A run whose j slots would be listed from `listed` on.
 fn run_at(code: &[u8], place: usize, listed: usize) -> Decoded
     requires { (byte_at code.now place 0 ≡ 0x1A) × (listed ≡ place + 5) × (listed ≤ length code.now) }
-    ensures { meaning code.now place result ≡ decodedByRules code.now place }
+    ensures { meaning code.now place result ≡ decoded_by_rules code.now place }
 {
     let j = byte_at(code, place, 4);
     if code.len() - listed < j as usize {
@@ -93,7 +93,7 @@ fn run_at(code: &[u8], place: usize, listed: usize) -> Decoded
 pub fn decode_fixed(code: &[u8], place: usize, first: u8, next: usize) -> Decoded
     requires first_value { first ≡ byte_at code.now place 0 }
     requires next_value { (next ≡ place + size_of (form_of first)) × (next ≤ length code.now) }
-    ensures { meaning code.now place result ≡ decodedByRules code.now place }
+    ensures { meaning code.now place result ≡ decoded_by_rules code.now place }
 {
     match first {
         0x01 => Decoded::Good(Instruction::Cst(signed_at(code, place, 1)), next),

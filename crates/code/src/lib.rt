@@ -4,7 +4,7 @@
 #![tactic(auto)]
 
 ghost use Rattle.std.specs.Prelude.{◌≡◌};
-ghost use Rattle.rules.specs.Instruction.{lengths as lengthsOfRules, decode as decodedByRules};
+ghost use Rattle.rules.specs.Instruction.{lengths as lengths_of_rules, decode as decoded_by_rules};
 ghost use Rattle.code.specs.Meaning.{meaning};
 
 use lengths::fixed_length;
@@ -74,8 +74,8 @@ pub enum Decoded {
 
 // The instruction at a place with the place after it, or bad. The table is the caller's, bound once for many decodes.
 pub fn decode(lengths: &[u8; 256], code: &[u8], place: usize) -> Decoded
-    requires { lengths.now ≡ lengthsOfRules }
-    ensures { meaning code.now place result ≡ decodedByRules code.now place }
+    requires { lengths.now ≡ lengths_of_rules }
+    ensures { meaning code.now place result ≡ decoded_by_rules code.now place }
 {
     if code.len() <= place {
         return Decoded::Bad;

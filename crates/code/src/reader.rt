@@ -1,19 +1,19 @@
 // The code reader: it holds the code and a place in it, and reads forward. Each function takes the struct apart and leaves the work to a
 // function on the slice and the number; `read` stands above them, and whoever calls it sees no reader.
 ghost use Rattle.std.specs.Prelude.{◌≡◌};
-ghost use Rattle.rules.specs.Instruction.{lengths as lengthsOfRules, decode as decodedByRules};
+ghost use Rattle.rules.specs.Instruction.{lengths as lengths_of_rules, decode as decoded_by_rules};
 ghost use Rattle.code.specs.Meaning.{meaning, goes_on};
 
 use crate::{Decoded, decode};
 
-#[derive(Drop)]
+#[derive(Clone, Copy)]
 pub struct Reader<'a> {
     pub code: &'a [u8],
     pub place: usize,
 }
 
 // What a reader finds at its place, and the reader after it.
-#[derive(Drop)]
+#[derive(Clone, Copy)]
 pub struct Taken<'a> {
     pub decoded: Decoded,
     pub after: Reader<'a>,
@@ -27,8 +27,8 @@ struct Found {
 }
 
 fn found_at(lengths: &[u8; 256], code: &[u8], place: usize) -> Found
-    requires { lengths.now ≡ lengthsOfRules }
-    ensures { (meaning code.now place result.decoded ≡ decodedByRules code.now place)
+    requires { lengths.now ≡ lengths_of_rules }
+    ensures { (meaning code.now place result.decoded ≡ decoded_by_rules code.now place)
         × (result.place ≡ goes_on place result.decoded) }
 {
     let decoded = decode(lengths, code, place);
@@ -56,9 +56,9 @@ impl<'a> Reader<'a> {
 
     // The instruction at the reader's place, or bad, with the reader after it.
     pub fn next(self, lengths: &[u8; 256]) -> Taken<'a>
-        requires { lengths.now ≡ lengthsOfRules }
+        requires { lengths.now ≡ lengths_of_rules }
         ensures { (meaning self.entry.code.now self.entry.place result.decoded
-            ≡ decodedByRules self.entry.code.now self.entry.place)
+            ≡ decoded_by_rules self.entry.code.now self.entry.place)
             × (result.after.code ≡ self.entry.code)
             × (result.after.place ≡ goes_on self.entry.place result.decoded) }
     {
@@ -75,8 +75,8 @@ impl<'a> Reader<'a> {
 
 // What a reader finds that is set at a place of the code: a function on a slice and a number, for callers that hold no reader.
 pub fn read(lengths: &[u8; 256], code: &[u8], place: usize) -> Decoded
-    requires { lengths.now ≡ lengthsOfRules }
-    ensures { meaning code.now place result ≡ decodedByRules code.now place }
+    requires { lengths.now ≡ lengths_of_rules }
+    ensures { meaning code.now place result ≡ decoded_by_rules code.now place }
 {
     let taken = Reader::new(code, place).next(lengths);
     taken.decoded

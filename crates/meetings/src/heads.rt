@@ -1,7 +1,7 @@
 // What the items at the heads of two queues make, before the waiting record is looked at: a value or a handle against a wait, a split
 // against a wait, close against close; all else does not match.
 ghost use Rattle.rules.specs.Numbers.{end_number, record_number};
-ghost use Rattle.rules.specs.State.{datum as datumItem, last, split_item, close_item, wait_item};
+ghost use Rattle.rules.specs.State.{datum as datum_item, last, split_item, close_item, wait_item};
 ghost use Rattle.ends.specs.Items.{item_of};
 ghost use Rattle.meetings.specs.Heads.{datum_of, Makes};
 
@@ -37,7 +37,7 @@ pub enum Meeting {
 
 // A datum at the head of e, an item at the head of f.
 fn datum_meets(e: End, f: End, datum: Datum, y: Item) -> Meeting
-    ensures { Makes (end_number e) (end_number f) (datumItem (datum_of datum)) (item_of y) result }
+    ensures { Makes (end_number e) (end_number f) (datum_item (datum_of datum)) (item_of y) result }
 {
     let Item::Wait(r) = y else {
         return Meeting::Mismatch;

@@ -9,7 +9,7 @@ ghost use Rattle.std.proofs.Math.Option.{some};
 ghost use Rattle.rules.specs.Limits.{end_count};
 ghost use Rattle.rules.specs.Numbers.{end_number};
 ghost use Rattle.rules.specs.State.{end_at, head_of};
-ghost use Rattle.rules.specs.Instruction.{lengths as lengthsOfRules};
+ghost use Rattle.rules.specs.Instruction.{lengths as lengths_of_rules};
 ghost use Rattle.rules.specs.EndStep.{meet_heads};
 ghost use Rattle.rules.specs.Layout.{view};
 ghost use Rattle.keeping.specs.Demand3.{SoundMemory};
@@ -26,7 +26,7 @@ mod steps; // steps.rt: a datum delivered, a split divided, two closes
 
 // Two items at the heads of e and f: 18, 19, or the step.
 fn meet(m: &mut [u8], lengths: &[u8; 256], e: End, f: End, x: Item, y: Item) -> Reply
-    requires sound_memory { SoundMemory m.old × (lengths.now ≡ lengthsOfRules) × (end_number e < end_count) × (end_number f < end_count) }
+    requires sound_memory { SoundMemory m.old × (lengths.now ≡ lengths_of_rules) × (end_number e < end_count) × (end_number f < end_count) }
     requires e_value { (head_of (end_at (view m.old) (end_number e)) ≡ some (item_of x))
         × (head_of (end_at (view m.old) (end_number f)) ≡ some (item_of y)) }
     ensures { Met m.old (end_number e) (end_number f)
@@ -51,7 +51,7 @@ fn meet(m: &mut [u8], lengths: &[u8; 256], e: End, f: End, x: Item, y: Item) -> 
 
 // An end is asked to step: 16, 17, 18, 19, or the step. Any number may be asked.
 pub fn step_end(m: &mut [u8], lengths: &[u8; 256], end: u32) -> Reply
-    requires { SoundMemory m.old × (lengths.now ≡ lengthsOfRules) }
+    requires { SoundMemory m.old × (lengths.now ≡ lengths_of_rules) }
     ensures { EndStepped m.old end result m.new }
 {
     if END_COUNT as u32 <= end {

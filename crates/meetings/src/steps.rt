@@ -4,7 +4,7 @@ ghost use Rattle.std.specs.Prelude.{◌≡◌, ◌≢◌, ◌<◌, length};
 ghost use Rattle.rules.specs.Limits.{end_count, record_count};
 ghost use Rattle.rules.specs.Numbers.{end_number, record_number};
 ghost use Rattle.rules.specs.State.{State, Registers as Process, value, handle, running, end_at, set_record, set_end, behind_head};
-ghost use Rattle.rules.specs.Instruction.{lengths as lengthsOfRules};
+ghost use Rattle.rules.specs.Instruction.{lengths as lengths_of_rules};
 ghost use Rattle.rules.specs.EndStep.{closes, freed};
 ghost use Rattle.rules.specs.Layout.{state_size, layout, view};
 ghost use Rattle.keeping.specs.Demand3.{SoundMemory};
@@ -35,7 +35,7 @@ fn take_both(m: &mut [u8], from: End, to: End, r: Record, x: Registers)
 
 // A value against a get: the record runs on after the get, value pushed.
 fn deliver_value(m: &mut [u8], lengths: &[u8; 256], from: End, to: End, v: i32, r: Record) -> Reply
-    requires sound_memory { SoundMemory m.old × (lengths.now ≡ lengthsOfRules) }
+    requires sound_memory { SoundMemory m.old × (lengths.now ≡ lengths_of_rules) }
     requires datum_waits { DatumWaits (view m.old) (end_number from) (end_number to) (value v) (record_number r) }
     ensures { DatumMet m.old (end_number from) (end_number to) (record_number r) (value v) result m.new }
 {
@@ -50,7 +50,7 @@ fn deliver_value(m: &mut [u8], lengths: &[u8; 256], from: End, to: End, v: i32, 
 
 // A handle n against an hcase of k places with n < k: the record runs at place n.
 fn deliver_handle(m: &mut [u8], lengths: &[u8; 256], from: End, to: End, n: u8, r: Record) -> Reply
-    requires sound_memory { SoundMemory m.old × (lengths.now ≡ lengthsOfRules) }
+    requires sound_memory { SoundMemory m.old × (lengths.now ≡ lengths_of_rules) }
     requires datum_waits { DatumWaits (view m.old) (end_number from) (end_number to) (handle n) (record_number r) }
     ensures { DatumMet m.old (end_number from) (end_number to) (record_number r) (handle n) result m.new }
 {
@@ -75,7 +75,7 @@ pub fn deliver(
     datum: Datum,
     r: Record,
 ) -> Reply
-    requires sound_memory { SoundMemory m.old × (lengths.now ≡ lengthsOfRules) }
+    requires sound_memory { SoundMemory m.old × (lengths.now ≡ lengths_of_rules) }
     requires datum_waits { DatumWaits (view m.old) (end_number from) (end_number to) (datum_of datum) (record_number r) }
     ensures { DatumMet m.old (end_number from) (end_number to) (record_number r) (datum_of datum)
         result m.new }
@@ -121,7 +121,7 @@ pub fn divide(
     second: End,
     r: Record,
 ) -> Reply
-    requires sound_memory { SoundMemory m.old × (lengths.now ≡ lengthsOfRules) × (end_number e < end_count) × (end_number f < end_count) }
+    requires sound_memory { SoundMemory m.old × (lengths.now ≡ lengths_of_rules) × (end_number e < end_count) × (end_number f < end_count) }
     requires no_data { NoData (view m.old) (end_number e) (end_number f)
         × SplitWaits (view m.old) (end_number first) (end_number second) (record_number r) }
     ensures { SplitMet m.old (end_number e) (end_number f) (end_number first) (end_number second) (record_number r)

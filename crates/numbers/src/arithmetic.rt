@@ -7,7 +7,7 @@ ghost use Rattle.rules.specs.Causes.{top, below};
 ghost use Rattle.rules.specs.Layout.{state_size, layout};
 ghost use Rattle.rules.specs.Calls.{layout_or};
 ghost use Rattle.rules.specs.Promise.{Promise};
-ghost use Rattle.rules.specs.Instruction.{add as addOf, mul as mulOf, leq as leqOf};
+ghost use Rattle.rules.specs.Instruction.{add as add_of, mul as mul_of, leq as leq_of};
 ghost use Rattle.keeping.specs.Demand3.{SoundMemory};
 ghost use Rattle.keeping.proofs.LayoutLaws.{Sized};
 ghost use Rattle.registers.specs.Registers.{registers_of, combined, moved_to};
@@ -77,21 +77,21 @@ fn make(m: &mut [u8], r: Record, made: Made, next: u16) -> Reply
 
 pub fn add(m: &mut [u8], r: Record, next: u16) -> Reply
     requires { SoundMemory m.old × (record_number r < record_count) }
-    ensures { Stepped m.old (record_number r) next addOf result m.new }
+    ensures { Stepped m.old (record_number r) next add_of result m.new }
 {
     make(m, r, Made::Sum, next)
 }
 
 pub fn mul(m: &mut [u8], r: Record, next: u16) -> Reply
     requires { SoundMemory m.old × (record_number r < record_count) }
-    ensures { Stepped m.old (record_number r) next mulOf result m.new }
+    ensures { Stepped m.old (record_number r) next mul_of result m.new }
 {
     make(m, r, Made::Product, next)
 }
 
 pub fn leq(m: &mut [u8], r: Record, next: u16) -> Reply
     requires { SoundMemory m.old × (record_number r < record_count) }
-    ensures { Stepped m.old (record_number r) next leqOf result m.new }
+    ensures { Stepped m.old (record_number r) next leq_of result m.new }
 {
     make(m, r, Made::Order, next)
 }

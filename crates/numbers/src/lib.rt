@@ -6,7 +6,7 @@
 ghost use Rattle.std.specs.Prelude.{◌<◌};
 ghost use Rattle.rules.specs.Limits.{record_count};
 ghost use Rattle.rules.specs.Numbers.{record_number};
-ghost use Rattle.rules.specs.Instruction.{cst as cstOf, access as accessOf, store as store_of};
+ghost use Rattle.rules.specs.Instruction.{cst as cst_of, access as access_of, store as store_of};
 ghost use Rattle.keeping.specs.Demand3.{SoundMemory};
 ghost use Rattle.stepping.specs.Stepped.{Stepped};
 
@@ -19,7 +19,7 @@ mod wide;
 // v is pushed.
 pub fn cst(m: &mut [u8], r: Record, v: i32, next: u16) -> Reply
     requires { SoundMemory m.old × (record_number r < record_count) }
-    ensures { Stepped m.old (record_number r) next (cstOf v) result m.new }
+    ensures { Stepped m.old (record_number r) next (cst_of v) result m.new }
 {
     let held = registers::load(m, r);
     if 16 <= held.stack_count {
@@ -33,7 +33,7 @@ pub fn cst(m: &mut [u8], r: Record, v: i32, next: u16) -> Reply
 // Environment value n, counted from the newest, is pushed. It is read straight from the memory.
 pub fn access(m: &mut [u8], r: Record, n: u8, next: u16) -> Reply
     requires { SoundMemory m.old × (record_number r < record_count) }
-    ensures { Stepped m.old (record_number r) next (accessOf n) result m.new }
+    ensures { Stepped m.old (record_number r) next (access_of n) result m.new }
 {
     let held = registers::load(m, r);
     if 16 <= held.stack_count {

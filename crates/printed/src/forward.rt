@@ -2,7 +2,7 @@
 // from a copy of the memory before it.
 ghost use Rattle.std.specs.Prelude.{◌≡◌, ◌<◌, length};
 ghost use Rattle.rules.specs.Limits.{position_count};
-ghost use Rattle.rules.specs.Instruction.{lengths as lengthsOfRules};
+ghost use Rattle.rules.specs.Instruction.{lengths as lengths_of_rules};
 ghost use Rattle.rules.specs.Run.{next_step};
 ghost use Rattle.rules.specs.Layout.{state_size, view};
 ghost use Rattle.keeping.specs.Demand3.{SoundMemory};
@@ -22,7 +22,7 @@ pub enum Forward {
 
 pub fn step_forward(m: &mut [u8], lengths: &[u8; 256], position: u32) -> Forward
     requires m_len { (length m.old ≡ state_size) × (position < position_count) }
-    requires sound_memory { SoundMemory m.old × (lengths.now ≡ lengthsOfRules) }
+    requires sound_memory { SoundMemory m.old × (lengths.now ≡ lengths_of_rules) }
     ensures { Forwarded m.old (next_step (view m.old) position) result m.new }
 {
     let mut before = [0; STATE_SIZE];

@@ -1,7 +1,7 @@
 // All that the printing program writes for an image, into a lent buffer that has room for the longest: a line for each step of the run
 // from position 0, then the verdict; or one line for an image that is refused. The text is `trace_text` of `rules`, whatever the image.
 ghost use Rattle.std.specs.Prelude.{◌≡◌, ◌≤◌, length};
-ghost use Rattle.rules.specs.Instruction.{lengths as lengthsOfRules};
+ghost use Rattle.rules.specs.Instruction.{lengths as lengths_of_rules};
 ghost use Rattle.rules.specs.Run.{steps};
 ghost use Rattle.rules.specs.Printed.{trace_budget, run_text, trace_text};
 ghost use Rattle.rules.specs.Layout.{view};
@@ -31,7 +31,7 @@ struct Lines {
 
 // The lines of the steps of a run.
 fn put_steps(m: &mut [u8], lengths: &[u8; 256], out: &mut [u8]) -> Lines
-    requires { SoundMemory m.old × (lengths.now ≡ lengthsOfRules) × (trace_limit ≤ length out.old) }
+    requires { SoundMemory m.old × (lengths.now ≡ lengths_of_rules) × (trace_limit ≤ length out.old) }
     ensures { Traced (view m.old) (steps trace_budget (view m.old) 0) out.old result.end result.made
         result.next m.new out.new }
 {

@@ -3,7 +3,7 @@
 ghost use Rattle.std.specs.Prelude.{◌≡◌, false, ℕ, ◌<◌, length};
 ghost use Rattle.rules.specs.Limits.{end_count};
 ghost use Rattle.rules.specs.State.{State, Registers as Process, is_free_end, end_at, end_in};
-ghost use Rattle.rules.specs.Instruction.{same as sameOf};
+ghost use Rattle.rules.specs.Instruction.{same as same_of};
 ghost use Rattle.rules.specs.RecordStep.{joined};
 ghost use Rattle.rules.specs.Layout.{state_size, layout, view};
 ghost use Rattle.rules.specs.Numbers.{record_number, slot_number, end_number};
@@ -19,7 +19,7 @@ fn refusal(m: &[u8], c: Slot, d: Slot, x: End, y: End) -> Reply
     requires { (length m.now ≡ state_size) × (end_number x < end_count) × (end_number y < end_count) }
     ensures { (st : State) (g : Process) → Sized st → m.now ≡ layout st → end_number x ≡ end_in g (slot_number c)
         → end_number y ≡ end_in g (slot_number d) → is_free_end (end_at st (end_number x)) ≡ false
-        → result ≡ shared_reply st g (sameOf (slot_number c) (slot_number d)) }
+        → result ≡ shared_reply st g (same_of (slot_number c) (slot_number d)) }
 {
     if c.0 == d.0 {
         return Reply::Refused(SAME_TWICE); // one slot twice
@@ -53,7 +53,7 @@ fn join(m: &mut [u8], x: End, y: End)
 pub fn same(m: &mut [u8], r: Record, c: Slot, d: Slot) -> Reply
     requires m_len { length m.old ≡ state_size }
     requires sound_memory { SoundMemory m.old × RunsAt m.old (record_number r) }
-    ensures { (next : ℕ) → Stepped m.old (record_number r) next (sameOf (slot_number c) (slot_number d)) result
+    ensures { (next : ℕ) → Stepped m.old (record_number r) next (same_of (slot_number c) (slot_number d)) result
         m.new }
 {
     let held = registers::load(m, r);

@@ -3,7 +3,7 @@
 ghost use Rattle.std.specs.Prelude.{◌≡◌, ℕ, ◌<◌, length};
 ghost use Rattle.rules.specs.Limits.{record_count, end_count, slot_count};
 ghost use Rattle.rules.specs.State.{State, Registers as Process, running, record_at, set_record};
-ghost use Rattle.rules.specs.Instruction.{plug as plugOf};
+ghost use Rattle.rules.specs.Instruction.{plug as plug_of};
 ghost use Rattle.rules.specs.RecordStep.{lowest_free, after, branch};
 ghost use Rattle.rules.specs.Layout.{state_size, layout, view};
 ghost use Rattle.rules.specs.Numbers.{record_number, slot_number, end_number};
@@ -44,7 +44,7 @@ fn divide(
     requires sound_memory { SoundMemory m.old × RunsAt m.old (record_number r) × Spare (view m.old) word (record_number new) }
     ensures { (next : ℕ) (g : Process) → record_at (view m.old) (record_number r) ≡ running g → held ≡ registers_of g
         → m.new ≡ layout (after (view m.old) (record_number r) next g (lowest_free (view m.old))
-        (plugOf (slot_number a) first.set first.place second.set second.place)) }
+        (plug_of (slot_number a) first.set first.place second.set second.place)) }
 {
     let p = lowest(word);
     let q = lowest(without_lowest(word));
@@ -57,7 +57,7 @@ fn divide(
 pub fn plug(m: &mut [u8], r: Record, a: Slot, first: Branch, second: Branch) -> Reply
     requires { SoundMemory m.old × RunsAt m.old (record_number r) }
     ensures { (next : ℕ) → Stepped m.old (record_number r) next
-        (plugOf (slot_number a) first.set first.place second.set second.place) result m.new }
+        (plug_of (slot_number a) first.set first.place second.set second.place) result m.new }
 {
     let held = registers::load(m, r);
     if let Reply::Refused(number) = causes::plug(held, a, first, second) {

@@ -1,7 +1,7 @@
 // A run: steps in their order, counted.
 ghost use Rattle.std.specs.Prelude.{◌≡◌, ◌<◌, length};
 ghost use Rattle.rules.specs.Limits.{position_count};
-ghost use Rattle.rules.specs.Instruction.{lengths as lengthsOfRules};
+ghost use Rattle.rules.specs.Instruction.{lengths as lengths_of_rules};
 ghost use Rattle.rules.specs.Run.{steps};
 ghost use Rattle.rules.specs.Layout.{state_size, view};
 ghost use Rattle.rules.specs.Calls.{run_answer, call_run};
@@ -34,7 +34,7 @@ struct Count {
 // The steps of a run.
 fn make_steps(m: &mut [u8], lengths: &[u8; 256], budget: u16, start: u32) -> Count
     requires m_len { (length m.old ≡ state_size) × (start < position_count) }
-    requires sound_memory { SoundMemory m.old × (lengths.now ≡ lengthsOfRules) }
+    requires sound_memory { SoundMemory m.old × (lengths.now ≡ lengths_of_rules) }
     ensures { Ended (view m.old) start (steps budget (view m.old) start) result.made result.next
         m.new }
 {

@@ -6,7 +6,7 @@ ghost use Rattle.rules.specs.Limits.{record_count, end_count, position_count};
 ghost use Rattle.rules.specs.Numbers.{end_number};
 ghost use Rattle.rules.specs.Refusal.{is_done};
 ghost use Rattle.rules.specs.Ask.{ask_end};
-ghost use Rattle.rules.specs.Instruction.{lengths as lengthsOfRules};
+ghost use Rattle.rules.specs.Instruction.{lengths as lengths_of_rules};
 ghost use Rattle.rules.specs.Run.{next_position, first_of, next_step};
 ghost use Rattle.rules.specs.Layout.{state_size, view};
 ghost use Rattle.rules.specs.Promise.{Promise};
@@ -99,7 +99,7 @@ fn next_candidate(m: &[u8], from: u32) -> u32
 // The step of the first position from one on and below another that can step.
 fn step_between(m: &mut [u8], lengths: &[u8; 256], from: u32, to: u32) -> Stepped
     requires m_len { (length m.old ≡ state_size) × (from ≤ to) × (to ≤ position_count) }
-    requires sound_memory { SoundMemory m.old × (lengths.now ≡ lengthsOfRules) }
+    requires sound_memory { SoundMemory m.old × (lengths.now ≡ lengths_of_rules) }
     ensures { Promise (stepped_by (first_of (to - from) (view m.old) from))
         (memory_by m.old (first_of (to - from) (view m.old) from)) result m.new }
 {
@@ -115,7 +115,7 @@ fn step_between(m: &mut [u8], lengths: &[u8; 256], from: u32, to: u32) -> Steppe
 
 pub fn step_from(m: &mut [u8], lengths: &[u8; 256], position: u32) -> Stepped
     requires m_len { (length m.old ≡ state_size) × (position < position_count) }
-    requires sound_memory { SoundMemory m.old × (lengths.now ≡ lengthsOfRules) }
+    requires sound_memory { SoundMemory m.old × (lengths.now ≡ lengths_of_rules) }
     ensures { Promise (stepped_by (next_step (view m.old) position))
         (memory_by m.old (next_step (view m.old) position)) result m.new }
 {

@@ -2,7 +2,7 @@
 // tried on a copy of the memory, so that no second set of tests stands beside the steps themselves.
 ghost use Rattle.std.specs.Prelude.{◌≡◌, true, length};
 ghost use Rattle.rules.specs.State.{is_free_end, is_free_record};
-ghost use Rattle.rules.specs.Instruction.{lengths as lengthsOfRules};
+ghost use Rattle.rules.specs.Instruction.{lengths as lengths_of_rules};
 ghost use Rattle.rules.specs.SoundTest.{all};
 ghost use Rattle.rules.specs.Run.{next_step, nothing_in_use, verdict_of};
 ghost use Rattle.rules.specs.Layout.{state_size, view};
@@ -58,7 +58,7 @@ fn nothing_in_use(m: &[u8]) -> bool
 
 // What a step from position 0 would be.
 fn would_step(m: &[u8], lengths: &[u8; 256]) -> Stepped
-    requires { (length m.now ≡ state_size) × SoundMemory m.now × (lengths.now ≡ lengthsOfRules) }
+    requires { (length m.now ≡ state_size) × SoundMemory m.now × (lengths.now ≡ lengths_of_rules) }
     ensures { result ≡ stepped_by (next_step (view m.now) 0) }
 {
     let mut trial = [0; STATE_SIZE];
@@ -67,7 +67,7 @@ fn would_step(m: &[u8], lengths: &[u8; 256]) -> Stepped
 }
 
 pub fn verdict_of(m: &[u8], lengths: &[u8; 256]) -> Verdict
-    requires { (length m.now ≡ state_size) × SoundMemory m.now × (lengths.now ≡ lengthsOfRules) }
+    requires { (length m.now ≡ state_size) × SoundMemory m.now × (lengths.now ≡ lengths_of_rules) }
     ensures { result ≡ verdict_code (verdict_of (view m.now)) }
 {
     if let Stepped::At(_) = would_step(m, lengths) {

@@ -13,31 +13,31 @@ use Rattle.dump.proofs.put_state.Statement.{statement}
 use Rattle.dump.proofs.put_state.Tie as tie
 
 -- the text up to the code, the records, the ends
-abbrev throughCode : State → List ℕ
-throughCode st = text "code " ++ code_text st.code ++ text "\n"
+abbrev through_code : State → List ℕ
+through_code st = text "code " ++ code_text st.code ++ text "\n"
 
-abbrev throughRecords : State → List ℕ
-throughRecords st = throughCode st ++ records_text st.records
+abbrev through_records : State → List ℕ
+through_records st = through_code st ++ records_text st.records
 
-abbrev throughEnds : State → List ℕ
-throughEnds st = throughRecords st ++ ends_text st.ends
+abbrev through_ends : State → List ℕ
+through_ends st = through_records st ++ ends_text st.ends
 
 abbrev last_line : List ℕ
 last_line = 101 ∷ 110 ∷ 100 ∷ 10 ∷ []
 
 -- room for all, and for the parts up to each
-whole : (s : tie.Start) → let a = s.args in a.at + length (throughEnds (view a.m.now) ++ last_line) ≤ length a.out.now
+whole : (s : tie.Start) → let a = s.args in a.at + length (through_ends (view a.m.now) ++ last_line) ≤ length a.out.now
 unfolding state_text text
 whole s = s.requires.1
 
-ends-room : (s : tie.Start) → let a = s.args in a.at + length (throughEnds (view a.m.now)) ≤ length a.out.now
-ends-room s = let a = s.args in room_first a.at (throughEnds (view a.m.now)) last_line a.out.now (whole s)
+ends-room : (s : tie.Start) → let a = s.args in a.at + length (through_ends (view a.m.now)) ≤ length a.out.now
+ends-room s = let a = s.args in room_first a.at (through_ends (view a.m.now)) last_line a.out.now (whole s)
 
-records-room : (s : tie.Start) → let a = s.args in a.at + length (throughRecords (view a.m.now)) ≤ length a.out.now
+records-room : (s : tie.Start) → let a = s.args in a.at + length (through_records (view a.m.now)) ≤ length a.out.now
 records-room s =
     let a = s.args in
     let st = view a.m.now in
-    room_first a.at (throughRecords st) (ends_text st.ends) a.out.now (ends-room s)
+    room_first a.at (through_records st) (ends_text st.ends) a.out.now (ends-room s)
 
 put-code-requires : tie.Need-put-code-requires
 put-code-requires c κs =
@@ -46,7 +46,7 @@ put-code-requires c κs =
     let m = a.m.now in
     let s = at-start.requires.0 in
     let lines = records_text (view m).records in
-    ((memory_length m s, s), room_first a.at (throughCode (view m)) lines a.out.now (records-room at-start))
+    ((memory_length m s, s), room_first a.at (through_code (view m)) lines a.out.now (records-room at-start))
 
 put-records-requires : tie.Need-put-records-requires
 put-records-requires c κs =

@@ -1,6 +1,6 @@
 -- `any_repeated` looks for one listed slot after the other behind it. The invariant: some is repeated exactly if one behind the first k
 use Rattle.std.proofs.Common.{◌≡◌, refl, sym, ap, ◌∙◌, ◌+◌, ◌-◌, ◌≤◌, arith, length, get_or, drop, length-drop, take_all, rules}
-use Rattle.rules.specs.Slots.{listed as inList, any_repeated}
+use Rattle.rules.specs.Slots.{listed as in_list, any_repeated}
 use Rattle.registers.proofs.Search.{found, passed, none_found, repeated_search}
 use Rattle.registers.proofs.listed.any_repeated.Goals as goal
 use Rattle.registers.proofs.listed.any_repeated.Goals.{After-has}
@@ -8,13 +8,13 @@ use Rattle.registers.proofs.listed.any_repeated.Goals.{After-has}
 -- what `has` says of the part behind slot k
 behind : (c : After-has)
     → c.has.result
-    ≡ inList (get_or c.args.listed.now c.loop-k.k 0)
+    ≡ in_list (get_or c.args.listed.now c.loop-k.k 0)
     (drop (c.loop-k.k + 1) c.args.listed.now)
 behind c =
     let cs = c.args.listed.now in
     let rest = drop (c.loop-k.k + 1) cs in
     let all = take_all (length cs - (c.loop-k.k + 1)) rest (simp length-drop (omega arith)) in
-    c.has.ensures ∙ ap (inList (get_or cs c.loop-k.k 0)) all
+    c.has.ensures ∙ ap (in_list (get_or cs c.loop-k.k 0)) all
 
 pub returns-then-has : goal.returns-then-has
 returns-then-has c =
