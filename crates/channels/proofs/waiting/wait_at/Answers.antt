@@ -1,0 +1,19 @@
+-- wait_at: 13, or a wait on the queue and the record waiting as it stands. Assumes nothing.
+use Rattle.std.proofs.Common.{refl, ◌∙◌, rules}
+use Rattle.keeping.proofs.Memories.{memory_length}
+use Rattle.channels.proofs.Answers.{full_step, sent}
+use Rattle.channels.proofs.waiting.wait_at.Goals as goal
+
+pub returns-in-Refused : goal.returns-in-Refused
+returns-in-Refused c g h = record { waited = full_step (c.append.ensures _ g h) c.in-Refused.is _ refl }
+
+pub save_waiting-requires : goal.save_waiting-requires
+save_waiting-requires c = (c.append.auto.m ∙ memory_length _ c.requires.holds_end.sound, c.requires.r_bound)
+
+pub returns : goal.returns
+returns c g h =
+    let s = c.requires.holds_end.sound in
+    record {
+      waited = sent (c.append.ensures _ g h) c.in_default.is s refl _ _
+          (λ st l q. c.save_waiting.ensures st _ l q h.is_held) refl;
+    }
