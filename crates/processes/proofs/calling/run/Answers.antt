@@ -1,0 +1,63 @@
+-- run: what its rows say, or the callee. Assumes nothing.
+use Rattle.std.proofs.Common.{arith, rules}
+use Rattle.rules.specs.Instruction.{Instruction, slots_at, run}
+use Rattle.rules.specs.Layout.{view}
+use Rattle.rules.specs.declared.Reply.TheVariants.{Done}
+use Rattle.keeping.proofs.Memories.{memory_length}
+use Rattle.registers.proofs.Fields.{by_fields}
+use Rattle.stepping.proofs.Steps.{done_step, memory_sized, in_range}
+use Rattle.stepping.proofs.Begun.{Begun, told, within, held, own_step, passes}
+use Rattle.processes.proofs.CallCases.{enough, run_done}
+use Rattle.processes.proofs.calling.run.Goals as goal
+use Rattle.processes.proofs.calling.run.Goals.{After-refusal, In_default, Start}
+
+pub load-held-requires : goal.load-held-requires
+load-held-requires c = let p = c.requires in (memory_length _ p.0, in_range _ p.0 _ p.1)
+
+-- the instruction
+abbrev this : Start → Instruction
+this s =
+    let a = s.args in run a.place a.n (slots_at (view a.m.now).code a.at 5 a.j)
+
+-- the registers are loaded and the rows have replied
+begun : (c : After-refusal) → Begun c.args.m.now c.args.r.0 (this c.before.before.before) c.load-held.result c.refusal.result
+begun c =
+    record {
+      sound = c.requires.0;
+      load_is = c.load-held.ensures;
+      reply_is = λ g w e. c.refusal.ensures g c.args.place w e;
+    }
+
+pub returns-in-Refused : goal.returns-in-Refused
+returns-in-Refused c next g is = own_step (told (begun (goal.at.returns-in-Refused c).After-refusal) c.in-Refused.is) next g is
+
+-- no row holds
+passed : (c : In_default) → Begun c.args.m.now c.args.r.0 (this c.before.before.before.before) c.load-held.result Done
+passed c = told (begun c.before) c.in_default.is
+
+pub callee-after-requires : goal.callee-after-requires
+callee-after-requires c =
+    let p = c.requires in
+    let b = passed c in
+    let g = p.1.process in
+    let is = p.1.runs in
+    let some = enough g c.args.place _ _ (passes b g is) in
+    let count = (by_fields g (held b g is)).stack_count_is in
+    record {
+      sound_memory = (p.0, p.2);
+      n_bound = (omega (arith, some, count), omega (arith, some, (within b g is).stack_within));
+    }
+
+pub save_running-requires : goal.save_running-requires
+save_running-requires c =
+    let p = c.requires in
+    (memory_length _ p.0, in_range _ p.0 _ p.1)
+
+pub returns : goal.returns
+returns c next g is =
+    let m = c.args.m.now in
+    let s = c.requires.0 in
+    let b = passed (goal.at.returns c).In_default in
+    let after = c.callee-after.ensures g (within b g is) (held b g is) in
+    done_step m _ (run_done g c.args.place _ _ (passes b g is) (view m) _ next)
+    (c.save_running.ensures (view m) _ (memory_sized m s) s.laid_out after)

@@ -1,0 +1,54 @@
+-- 12 or 14, or none of them. Assumes nothing.
+use Rattle.std.proofs.Common.{◌≡◌, sym, ◌∙◌, false, arith, rules, eq-eqb, ne_eqb}
+use Rattle.rules.specs.State.{State, Registers as Process, end_at, end_in, is_free_end}
+use Rattle.rules.specs.Causes.{partners}
+use Rattle.rules.specs.Layout.{layout}
+use Rattle.rules.specs.Numbers.{end_number}
+use Rattle.keeping.proofs.LayoutLaws.{Sized}
+use Rattle.processes.proofs.JoinRows.{one_slot_twice, two_partners, first_queued, second_queued, no_row, mated}
+use Rattle.processes.proofs.JoinRows.{some_queued, none_queued}
+use Rattle.processes.proofs.joining.refusal.Goals as goal
+use Rattle.processes.proofs.joining.refusal.Goals.{Else-partner-y}
+
+pub returns-then-c-d : goal.returns-then-c-d
+returns-then-c-d c st g sized laid xe ye in_use =
+    let a = c.args in
+    one_slot_twice st g a.c.0 a.d.0 (eq-eqb a.c.0 a.d.0 c.if-c-d.true)
+
+pub returns-then-partner-y : goal.returns-then-partner-y
+returns-then-partner-y c st g sized laid xe ye in_use =
+    let a = c.args in
+    let k = c.partner-partner.result.0 in
+    let mates = mated st g a.c.0 a.d.0 a.x.0 a.y.0 k xe ye in_use (c.partner-partner.ensures st sized laid) in
+    two_partners st g a.c.0 a.d.0 (ne_eqb a.c.0 a.d.0 c.if-c-d.false)
+    (sym mates ∙ eq-eqb k a.y.0 c.if-partner-y.true)
+
+-- rows 12 are passed
+apart : (c : Else-partner-y) (st : State) (g : Process) → let a = c.args in
+    Sized st → a.m.now ≡ layout st → end_number a.x ≡ end_in g a.c.0 → end_number a.y ≡ end_in g a.d.0
+    → is_free_end (end_at st (end_number a.x)) ≡ false → partners st a.c.0 a.d.0 g ≡ false
+apart c st g sized laid xe ye in_use =
+    let a = c.args in
+    let k = c.partner-partner.result.0 in
+    sym (mated st g a.c.0 a.d.0 a.x.0 a.y.0 k xe ye in_use (c.partner-partner.ensures st sized laid))
+    ∙ ne_eqb k a.y.0 c.if-partner-y.false
+
+pub returns-then-queued-gt0 : goal.returns-then-queued-gt0
+returns-then-queued-gt0 c st g sized laid xe ye in_use =
+    let a = c.args in
+    first_queued st g a.c.0 a.d.0 (ne_eqb a.c.0 a.d.0 c.if-c-d.false) (apart (goal.at.returns-then-queued-gt0 c).Else-partner-y st g sized laid xe ye in_use)
+    (some_queued st g a.c.0 a.x.0 _ xe (c.queued.ensures.value_2 st sized laid) c.if-queued-gt0.true)
+
+pub returns-then-queued-gt0-2 : goal.returns-then-queued-gt0-2
+returns-then-queued-gt0-2 c st g sized laid xe ye in_use =
+    let a = c.args in
+    second_queued st g a.c.0 a.d.0 (ne_eqb a.c.0 a.d.0 c.if-c-d.false) (apart (goal.at.returns-then-queued-gt0-2 c).Else-partner-y st g sized laid xe ye in_use)
+    (none_queued st g a.c.0 a.x.0 _ xe (c.queued.ensures.value_2 st sized laid) (omega (arith, c.if-queued-gt0.false)))
+    (some_queued st g a.d.0 a.y.0 _ ye (c.queued-2.ensures.value_2 st sized laid) c.if-queued-gt0-2.true)
+
+pub returns : goal.returns
+returns c st g sized laid xe ye in_use =
+    let a = c.args in
+    no_row st g a.c.0 a.d.0 (ne_eqb a.c.0 a.d.0 c.if-c-d.false) (apart (goal.at.returns c).Else-partner-y st g sized laid xe ye in_use)
+    (none_queued st g a.c.0 a.x.0 _ xe (c.queued.ensures.value_2 st sized laid) (omega (arith, c.if-queued-gt0.false)))
+    (none_queued st g a.d.0 a.y.0 _ ye (c.queued-2.ensures.value_2 st sized laid) (omega (arith, c.if-queued-gt0-2.false)))

@@ -1,0 +1,95 @@
+-- plug: what its rows say, 15, or the two processes. Assumes nothing.
+use Rattle.std.proofs.Common.{◌≡◌, false, arith, rules}
+use Rattle.rules.specs.State.{lowest_free_record}
+use Rattle.rules.specs.Instruction.{Instruction, plug}
+use Rattle.rules.specs.Causes.{few_free_ends, no_free_record}
+use Rattle.rules.specs.Layout.{view, free_word}
+use Rattle.rules.specs.declared.Reply.TheVariants.{Done}
+use Rattle.keeping.proofs.Memories.{memory_length}
+use Rattle.stepping.proofs.Steps.{refused_step, done_step, memory_sized, in_range}
+use Rattle.stepping.proofs.FreeEnds.{few_ends, enough_ends}
+use Rattle.stepping.proofs.FreeRecords.{no_record, some_record}
+use Rattle.stepping.proofs.Begun.{Begun, told, held, own_step, passes}
+use Rattle.processes.proofs.PlugCases.{too_few_ends, no_free_record_lem, plugged}
+use Rattle.processes.proofs.plugging.plug.Goals as goal
+use Rattle.processes.proofs.plugging.plug.Goals.{After-free_word-word, After-lowest_free_record-new, After-plug, Else-count-lt2, Else-new, In_default, Start}
+
+pub load-held-requires : goal.load-held-requires
+load-held-requires c = let p = c.requires in (memory_length _ p.0, in_range _ p.0 _ p.1)
+
+-- the instruction
+abbrev this : Start → Instruction
+this s = let a = s.args in plug a.a.0 a.first.set a.first.place a.second.set a.second.place
+
+-- the registers are loaded and `causes` has replied
+begun : (c : After-plug) → Begun c.args.m.now c.args.r.0 (this c.before.before.before) c.load-held.result c.plug.result
+begun c =
+    record { sound = c.requires.0; load_is = c.load-held.ensures; reply_is = c.plug.ensures }
+
+pub returns-in-Refused : goal.returns-in-Refused
+returns-in-Refused c next g is = own_step (told (begun (goal.at.returns-in-Refused c).After-plug) c.in-Refused.is) next g is
+
+-- no row 5 to 11 holds
+passed : (c : In_default) → Begun c.args.m.now c.args.r.0 (this c.before.before.before.before) c.load-held.result Done
+passed c = told (begun c.before) c.in_default.is
+
+pub free_word-word-requires : goal.free_word-word-requires
+free_word-word-requires c = memory_length _ c.requires.0
+
+-- the word that is read is that of the free ends
+word_read : (c : After-free_word-word) → c.free_word-word.result ≡ free_word (view c.args.m.now).ends
+word_read c =
+    let s = c.requires.0 in
+    c.free_word-word.ensures _ (memory_sized _ s) s.laid_out
+
+pub returns-then-count-lt2 : goal.returns-then-count-lt2
+returns-then-count-lt2 c next g is =
+    let a = c.args in
+    let st = view a.m.now in
+    let few = few_ends st (memory_sized _ c.requires.0) _ (word_read (goal.at.returns-then-count-lt2 c).After-free_word-word) c.count.ensures 2 c.if-count-lt2.true in
+    refused_step 15 (too_few_ends st a.r.0 next g _ _ _ _ _ (passes (passed (goal.at.returns-then-count-lt2 c).In_default) g is) few)
+
+pub lowest_free_record-new-requires : goal.lowest_free_record-new-requires
+lowest_free_record-new-requires c = memory_length _ c.requires.0
+
+-- two ends are free
+two : (c : Else-count-lt2) → few_free_ends 2 (view c.args.m.now) ≡ false
+two c =
+    let s = c.requires.0 in
+    enough_ends _ (memory_sized _ s) _ (word_read c.before.before) c.count.ensures 2 c.if-count-lt2.false
+
+-- the record that is found is the lowest free one
+new-read : (c : After-lowest_free_record-new) → c.lowest_free_record-new.result.0 ≡ lowest_free_record (view c.args.m.now)
+new-read c =
+    let s = c.requires.0 in
+    c.lowest_free_record-new.ensures _ (memory_sized _ s) s.laid_out
+
+pub returns-then-new : goal.returns-then-new
+returns-then-new c next g is =
+    let a = c.args in
+    let st = view a.m.now in
+    let none = no_record st c.requires.0.state_sound (omega (arith, c.if-new.true, new-read (goal.at.returns-then-new c).After-lowest_free_record-new)) in
+    refused_step 15 (no_free_record_lem st a.r.0 next g _ _ _ _ _ (passes (passed (goal.at.returns-then-new c).In_default) g is) (two (goal.at.returns-then-new c).Else-count-lt2) none)
+
+-- a record is free
+some : (c : Else-new) → no_free_record (view c.args.m.now) ≡ false
+some c = some_record _ (omega (arith, c.if-new.false, new-read c.before.before))
+
+pub divide-requires : goal.divide-requires
+divide-requires c =
+    let p = c.requires in record {
+      m_len = memory_length _ p.0;
+      sound_memory = (
+        p.0,
+        p.1,
+        record { word_is = word_read (goal.at.divide-requires c).After-free_word-word; two_ends = two (goal.at.divide-requires c).Else-count-lt2; new_is = new-read (goal.at.divide-requires c).After-lowest_free_record-new; a_record = some (goal.at.divide-requires c).Else-new },
+      );
+    }
+
+pub returns : goal.returns
+returns c next g is =
+    let a = c.args in
+    let m = a.m.now in
+    let b = passed (goal.at.returns c).In_default in
+    done_step m _ (plugged (view m) a.r.0 next g _ _ _ _ _ (passes b g is) (two (goal.at.returns c).Else-count-lt2) (some (goal.at.returns c).Else-new))
+    (c.divide.ensures next g is (held b g is))
