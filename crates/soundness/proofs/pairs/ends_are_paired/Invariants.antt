@@ -1,0 +1,14 @@
+-- `ends_are_paired` looks at one end after the other. The invariant: the first e pass. Assumes nothing.
+use Rattle.std.proofs.Common.{◌≡◌, true, ◌-◌, ◌≤◌, arith, rules}
+use Rattle.rules.specs.Limits.{end_count}
+use Rattle.rules.specs.SoundTest.{every, paired_test}
+use Rattle.rules.specs.Layout.{view}
+use Rattle.canonical.proofs.Tests.{every_none, reached}
+use Rattle.canonical.proofs.Tests.{turn_fails, turn_passes}
+use Rattle.soundness.proofs.pairs.ends_are_paired.Given as goal
+
+abbrev pub invariant-loop-e : goal.invariant-loop-e
+invariant-loop-e l = (l.e ≤ end_count) × (every (paired_test (view l.m)) l.e ≡ true)
+
+abbrev pub decreases-loop-e : goal.decreases-loop-e
+decreases-loop-e l = end_count - l.e
