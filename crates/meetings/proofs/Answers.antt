@@ -1,5 +1,5 @@
 -- Which test leads to which answer at an end, over plain variables: 16 to 19 in their order, or the state after. Assumes nothing.
-use mathlib.Core.Path.{◌≡◌, subst}
+use mathlib.Core.Path.{◌≡◌, subst, sym}
 use mathlib.Core.Bool.{true, false}
 use mathlib.Core.Option.{none, some}
 use Prim.Native.Nat.{ℕ}
@@ -65,4 +65,6 @@ module _ (st : State) (e : ℕ) where
 
         pub both_head : {y : Item} → head_of (end_at st f) ≡ some y → ask_end st e ≡ ask_met st e f (meet_heads st e f (some x) (some y))
         unfolding ask_end end_causes meeting ask_met unless
-        both_head {y} h = rw (within, in_use, own, subst (λ (k : ℕ). head_of (end_at st k) ≡ some y) partner h, partner)
+        both_head {y} h =
+            subst (λ (k : ℕ). ask_end st e ≡ ask_met st e k (meet_heads st e k (some x) (some y))) (sym partner)
+            (rw (within, in_use, own, subst (λ (k : ℕ). head_of (end_at st k) ≡ some y) partner h))
