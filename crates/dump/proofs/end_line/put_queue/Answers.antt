@@ -1,0 +1,63 @@
+-- One item after the other. The invariant: the first k items stand. Assumes nothing.
+use Rattle.std.proofs.Common.{◌≡◌, refl, [], ◌-◌, ◌≤◌, ◌<◌, arith, length, take, rules}
+use Rattle.rules.specs.State.{end_at}
+use Rattle.rules.specs.Layout.{view}
+use Rattle.stepping.proofs.Steps.{memory_sized}
+use Rattle.text.specs.Written.{Written}
+use Rattle.dump.specs.Pieces.{item_texts}
+use Rattle.dump.proofs.Parts.{written_none}
+use Rattle.dump.proofs.OneByOne.{so_far, index_room, index_more, index_dash_room, index_done}
+use Rattle.dump.proofs.Queued.{items_count}
+use Rattle.dump.proofs.end_line.put_queue.Goals as goal
+use Rattle.dump.proofs.end_line.put_queue.Goals.{After-queued-count}
+
+-- as many items as are queued
+counted : (c : After-queued-count)
+    → let a = c.args in length (item_texts (end_at (view a.m.now) a.e)) ≡ c.queued-count.result
+counted c =
+    let a = c.args in
+    let m = a.m.now in
+    let s = c.requires.m_len.2 in
+    let is = c.queued-count.ensures.value_2 (view m) (memory_sized m s) s.laid_out in
+    omega (arith, is, items_count (end_at (view m) a.e))
+
+pub loop-k-init : goal.loop-k-init
+unfolding so_far
+loop-k-init c = (omega arith, refl, written_none c.args.out.now c.args.at)
+
+pub put_next-next-requires : goal.put_next-next-requires
+put_next-next-requires c =
+    let a = c.args in
+    let all = item_texts (end_at (view a.m.now) a.e) in
+    let l = c.loop-k in
+    let inside : l.k < length all = omega (arith, c.loop-k-test.true, counted (goal.at.put_next-next-requires c).After-queued-count) in
+    record {
+      m_len = c.requires.m_len;
+      k_in_bounds = inside;
+      k_in_bounds_2 = index_room all l.k l.invariant.2 [] inside c.requires.e_in_bounds;
+    }
+
+pub loop-k-preserved : goal.loop-k-preserved
+loop-k-preserved c =
+    let a = c.args in
+    let all = item_texts (end_at (view a.m.now) a.e) in
+    let l = c.loop-k in
+    let below = c.loop-k-test.true in
+    let inside : l.k < length all = omega (arith, below, counted (goal.at.loop-k-preserved c).After-queued-count) in
+    (omega (arith, below), omega arith, index_more all l.k l.invariant.2 [] inside c.put_next-next.ensures)
+
+pub put_dash-requires : goal.put_dash-requires
+put_dash-requires c =
+    let a = c.args in
+    let all = item_texts (end_at (view a.m.now) a.e) in
+    let l = c.loop-k in
+    let enough : length all ≡ l.k = omega (arith, c.loop-k-test.false, l.invariant.0, counted (goal.at.put_dash-requires c).After-queued-count) in
+    index_dash_room all l.k l.invariant.2 enough c.requires.e_in_bounds
+
+pub returns : goal.returns
+returns c =
+    let a = c.args in
+    let all = item_texts (end_at (view a.m.now) a.e) in
+    let l = c.loop-k in
+    let enough : length all ≡ l.k = omega (arith, c.loop-k-test.false, l.invariant.0, counted (goal.at.returns c).After-queued-count) in
+    index_done all l.k l.invariant.2 enough c.put_dash.ensures

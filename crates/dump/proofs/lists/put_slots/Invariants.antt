@@ -1,0 +1,12 @@
+-- One slot after the other. The invariant: those of the first c slots that hold an end stand. Assumes nothing.
+use Rattle.std.proofs.Common.{◌≡◌, ⊎_elim, ◌+◌, ◌-◌, ◌≤◌, arith, length, rules}
+use Rattle.rules.specs.Limits.{slot_count}
+use Rattle.dump.proofs.HeldSlots.{SlotsSoFar, no_slots, slots_as, slots_length, slot_empty, slot_room_lem, slot_held}
+use Rattle.dump.proofs.HeldSlots.{slots_dash_room, slots_done}
+use Rattle.dump.proofs.lists.put_slots.Given as goal
+
+abbrev pub invariant-loop-c : goal.invariant-loop-c
+invariant-loop-c l = (l.c ≤ slot_count) × (length l.out ≡ length l.initial.out) × SlotsSoFar l.initial.out l.at l.slots l.out l.next l.shown l.c
+
+abbrev pub decreases-loop-c : goal.decreases-loop-c
+decreases-loop-c l = slot_count - l.c

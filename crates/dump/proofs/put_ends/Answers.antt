@@ -1,0 +1,28 @@
+-- One line after the other. The invariant: the lines of the first e ends stand. Assumes nothing.
+use Rattle.std.proofs.Common.{◌-◌, rules}
+use Rattle.rules.specs.Limits.{end_count}
+use Rattle.rules.specs.State.{free_end}
+use Rattle.rules.specs.Layout.{view}
+use Rattle.dump.specs.Shown.{end_text, ends_text}
+use Rattle.dump.proofs.OneByOne.{LinesTo, no_line, line_room, line_more, all_lines}
+use Rattle.dump.proofs.put_ends.Goals as goal
+
+pub loop-e-init : goal.loop-e-init
+loop-e-init c = no_line c.requires.m_len.1.state_sound.S1.end_count_is
+
+pub put_end-next-requires : goal.put_end-next-requires
+unfolding ends_text
+put_end-next-requires c =
+    let pre = c.requires in
+    let below = c.loop-e-test.true in
+    record {
+      m_len = (pre.m_len.0, below, pre.m_len.1);
+      e_in_bounds = line_room c.loop-e.invariant free_end below pre.m_in_bounds;
+    }
+
+pub loop-e-preserved : goal.loop-e-preserved
+loop-e-preserved c = line_more c.loop-e.invariant free_end c.loop-e-test.true c.put_end-next.ensures
+
+pub returns : goal.returns
+unfolding ends_text
+returns c = all_lines c.loop-e.invariant c.loop-e-test.false

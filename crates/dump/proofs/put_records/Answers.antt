@@ -1,0 +1,28 @@
+-- One line after the other. The invariant: the lines of the first r records stand. Assumes nothing.
+use Rattle.std.proofs.Common.{◌-◌, rules}
+use Rattle.rules.specs.Limits.{record_count}
+use Rattle.rules.specs.State.{free_record}
+use Rattle.rules.specs.Layout.{view}
+use Rattle.dump.specs.Shown.{record_text, records_text}
+use Rattle.dump.proofs.OneByOne.{LinesTo, no_line, line_room, line_more, all_lines}
+use Rattle.dump.proofs.put_records.Goals as goal
+
+pub loop-r-init : goal.loop-r-init
+loop-r-init c = no_line c.requires.m_len.1.state_sound.S1.record_count_is
+
+pub put_record-next-requires : goal.put_record-next-requires
+unfolding records_text
+put_record-next-requires c =
+    let pre = c.requires in
+    let below = c.loop-r-test.true in
+    record {
+      m_len = (pre.m_len.0, below, pre.m_len.1);
+      r_in_bounds = line_room c.loop-r.invariant free_record below pre.m_in_bounds;
+    }
+
+pub loop-r-preserved : goal.loop-r-preserved
+loop-r-preserved c = line_more c.loop-r.invariant free_record c.loop-r-test.true c.put_record-next.ensures
+
+pub returns : goal.returns
+unfolding records_text
+returns c = all_lines c.loop-r.invariant c.loop-r-test.false

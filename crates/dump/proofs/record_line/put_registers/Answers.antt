@@ -1,0 +1,81 @@
+-- One part after the other. Assumes nothing.
+use Rattle.std.proofs.Common.{[], ◌∷◌, ◌++◌, ◌+◌, ◌≤◌, length, rules}
+use Rattle.rules.specs.Text.{decimal}
+use Rattle.text.proofs.Texts.{written_more, written_as, room_as, room_first, room_rest}
+use Rattle.dump.specs.Shown.{values_text, slots_text}
+use Rattle.dump.specs.Pieces.{process_in}
+use Rattle.dump.proofs.Parts.{stack_part, environment_part, slots_word}
+use Rattle.dump.proofs.Parts.{through_stack, through_environment, through_word, through_slots, registers_parts}
+use Rattle.dump.proofs.record_line.put_registers.Goals as goal
+use Rattle.dump.proofs.record_line.put_registers.Goals.{Start}
+
+-- room for all, and for the parts up to each
+whole : (s : Start) → let a = s.args in a.at + length (through_slots (process_in a.g) ++ 10 ∷ []) ≤ length a.out.now
+whole s = let a = s.args in room_as a.at _ _ a.out.now (registers_parts (process_in a.g)) s.requires.g_in_bounds
+
+slots_room_lem : (s : Start) → let a = s.args in a.at + length (through_slots (process_in a.g)) ≤ length a.out.now
+slots_room_lem s = let a = s.args in room_first a.at (through_slots (process_in a.g)) (10 ∷ []) a.out.now (whole s)
+
+word_room : (s : Start) → let a = s.args in a.at + length (through_word (process_in a.g)) ≤ length a.out.now
+word_room s =
+    let a = s.args in
+    let g = process_in a.g in
+    room_first a.at (through_word g) (slots_text g.slots) a.out.now (slots_room_lem s)
+
+environment-room : (s : Start) → let a = s.args in a.at + length (through_environment (process_in a.g)) ≤ length a.out.now
+environment-room s = let a = s.args in room_first a.at (through_environment (process_in a.g)) slots_word a.out.now (word_room s)
+
+stack_room : (s : Start) → let a = s.args in a.at + length (through_stack (process_in a.g)) ≤ length a.out.now
+stack_room s =
+    let a = s.args in
+    let g = process_in a.g in
+    room_first a.at (through_stack g) (environment_part (values_text g.environment)) a.out.now (environment-room s)
+
+pub put_decimal-placed-requires : goal.put_decimal-placed-requires
+put_decimal-placed-requires c =
+    let a = c.args in
+    let g = process_in a.g in
+    room_first a.at (decimal g.place) (stack_part (values_text g.stack)) a.out.now (stack_room (goal.at.put_decimal-placed-requires c).Start)
+
+pub put_named_values-stacked-requires : goal.put_named_values-stacked-requires
+put_named_values-stacked-requires c =
+    let g = process_in c.args.g in
+    record {
+      count_le_stack_depth = c.requires.stack_count_bound.0;
+      values_in_bounds = room_rest (stack_part (values_text g.stack)) (stack_room (goal.at.put_named_values-stacked-requires c).Start) c.put_decimal-placed.ensures;
+    }
+
+pub put_named_values-both-requires : goal.put_named_values-both-requires
+put_named_values-both-requires c =
+    let g = process_in c.args.g in
+    let written = written_more c.put_decimal-placed.ensures c.put_named_values-stacked.ensures in
+    record {
+      count_le_stack_depth = c.requires.stack_count_bound.1;
+      values_in_bounds = room_rest (environment_part (values_text g.environment)) (environment-room (goal.at.put_named_values-both-requires c).Start) written;
+    }
+
+pub put_bytes-named-requires : goal.put_bytes-named-requires
+put_bytes-named-requires c =
+    let first = written_more c.put_decimal-placed.ensures c.put_named_values-stacked.ensures in
+    let written = written_more first c.put_named_values-both.ensures in
+    room_rest slots_word (word_room (goal.at.put_bytes-named-requires c).Start) written
+
+pub put_slots-held-requires : goal.put_slots-held-requires
+put_slots-held-requires c =
+    let first = written_more c.put_decimal-placed.ensures c.put_named_values-stacked.ensures in
+    let written = written_more (written_more first c.put_named_values-both.ensures) c.put_bytes-named.ensures in
+    room_rest (slots_text (process_in c.args.g).slots) (slots_room_lem (goal.at.put_slots-held-requires c).Start) written
+
+pub put_letter-requires : goal.put_letter-requires
+put_letter-requires c =
+    let first = written_more c.put_decimal-placed.ensures c.put_named_values-stacked.ensures in
+    let written = written_more (written_more first c.put_named_values-both.ensures) c.put_bytes-named.ensures in
+    let line = written_more written c.put_slots-held.ensures in
+    room_rest (10 ∷ []) (whole (goal.at.put_letter-requires c).Start) line
+
+pub returns : goal.returns
+returns c =
+    let first = written_more c.put_decimal-placed.ensures c.put_named_values-stacked.ensures in
+    let written = written_more (written_more first c.put_named_values-both.ensures) c.put_bytes-named.ensures in
+    written_as (registers_parts (process_in c.args.g))
+    (written_more (written_more written c.put_slots-held.ensures) c.put_letter.ensures)
