@@ -1,0 +1,57 @@
+-- The place, the code, the decoder, and the instruction. Assumes nothing.
+use Rattle.std.proofs.Common.{◌≡◌, sym, ap, ◌∙◌, rules}
+use mathlib.Core.Option.{some}
+use Rattle.rules.specs.State.{RecordState}
+use Rattle.rules.specs.Instruction.{decode}
+use Rattle.rules.specs.Layout.{view}
+use Rattle.code.specs.Meaning.{instruction_of}
+use Rattle.registers.specs.Registers.{registers_in}
+use Rattle.stepping.proofs.Steps.{refused_step, promised_as, memory_sized, in_range}
+use Rattle.stepping.proofs.Decoding.{decoded_good, decoded_bad, next_small}
+use Rattle.asking.proofs.Listing.{listed_in}
+use Rattle.asking.proofs.Answers.{no_instruction, an_instruction}
+use Rattle.asking.proofs.record.step_running.Goals as goal
+use Rattle.asking.proofs.record.step_running.Goals.{After-place_of-place, In-Good}
+
+-- the place that is read is that of the process
+placed : (c : After-place_of-place)
+    → c.place_of-place.result ≡ c.requires.sound_memory.2.process.place
+placed c =
+    let m = c.args.m.now in
+    let s = c.requires.sound_memory.0 in
+    let a = c.requires.sound_memory.2 in
+    c.place_of-place.ensures (view m) (memory_sized m s) (s.state_sound.S1.records_within _) s.laid_out
+    ∙ ap (λ (x : RecordState). (registers_in x).place) a.runs
+
+-- a decoding that is good
+good : (c : In-Good) → let code = (view c.args.m.now).code in
+    let place = c.place_of-place.result in
+    decode code place ≡ some (record { instruction = instruction_of code place c.in-Good.i; next = c.in-Good.next })
+good c =
+    decoded_good _ _ _ _ c.code.ensures c.decode.ensures c.in-Good.is
+
+pub overflow_cast-next : goal.overflow_cast-next
+overflow_cast-next c =
+    record { fits = next_small c.args.m.now c.requires.sound_memory.0 _ _ (good (goal.at.overflow_cast-next c).In-Good) }
+
+pub step_instruction-requires : goal.step_instruction-requires
+step_instruction-requires c =
+    let p = c.requires in
+    record {
+      m_len = p.m_len;
+      sound_memory = (p.sound_memory.0, p.sound_memory.2, listed_in (view c.args.m.now).code _ c.in-Good.i c.in-Good.next (good (goal.at.step_instruction-requires c).In-Good));
+    }
+
+pub returns-in-Bad : goal.returns-in-Bad
+returns-in-Bad c =
+    let m = c.args.m.now in
+    let a = c.requires.sound_memory.2 in
+    let bad = decoded_bad (view m).code _ _ _ c.code.ensures c.decode.ensures c.in-Bad.is in
+    refused_step 4 (no_instruction (view m) _ a.process a.runs (ap (decode (view m).code) (sym (placed (goal.at.returns-in-Bad c).After-place_of-place)) ∙ bad))
+
+pub returns-in-Good : goal.returns-in-Good
+returns-in-Good c =
+    let m = c.args.m.now in
+    let a = c.requires.sound_memory.2 in
+    let here = ap (decode (view m).code) (sym (placed (goal.at.returns-in-Good c).After-place_of-place)) ∙ good (goal.at.returns-in-Good c).In-Good in
+    promised_as m (an_instruction (view m) _ a.process a.runs _ _ here) (c.step_instruction.ensures a.process a.runs)
