@@ -1,0 +1,41 @@
+-- The steps one after the other. The invariant: those made so far are the steps of the budget used so far. Assumes nothing.
+use Rattle.std.proofs.Common.{◌≡◌, refl, ◌-◌, ◌≤◌, arith, length, rules}
+use Rattle.rules.specs.Layout.{view}
+use Rattle.keeping.proofs.Memories.{memory_length}
+use Rattle.runner.proofs.Making.{MadeSoFar, none_yet, memory_sound, stopped, ended, position_in_range, one_more}
+use Rattle.runner.proofs.running.make_steps.Goals as goal
+
+pub loop-made-init : goal.loop-made-init
+loop-made-init c = let p = c.requires in (omega arith, refl, none_yet _ p.sound_memory.0 _ p.m_len.1)
+
+pub step_from-requires : goal.step_from-requires
+step_from-requires c =
+    let l = c.loop-made in
+    let p = c.requires in
+    let s = memory_sound _ _ _ _ _ l.invariant.2 in
+    record {
+      m_len = (memory_length _ s, l.invariant.2.in_range);
+      sound_memory = (s, p.sound_memory.1);
+    }
+
+pub returns-in-Nowhere : goal.returns-in-Nowhere
+returns-in-Nowhere c =
+    let l = c.loop-made in
+    let b = c.args.budget in
+    let promise = c.step_from.ensures in
+    stopped _ _ _ _ _ l.invariant.2 b l.invariant.0 promise.answer_is promise.memory_is c.in-Nowhere.is
+
+pub position_after-next-requires : goal.position_after-next-requires
+position_after-next-requires c =
+    let l = c.loop-made in
+    let promise = c.step_from.ensures in
+    position_in_range _ _ _ _ _ l.invariant.2 _ promise.answer_is promise.memory_is c.in-At.is
+
+pub loop-made-preserved : goal.loop-made-preserved
+loop-made-preserved c =
+    let l = c.loop-made in
+    let promise = c.step_from.ensures in (
+      omega (arith, c.loop-made-test.true),
+      omega arith,
+      one_more _ _ _ _ _ l.invariant.2 _ promise.answer_is promise.memory_is c.in-At.is _ c.position_after-next.ensures,
+    )
