@@ -1,0 +1,16 @@
+-- The reply's number, and the memory that `machine` leaves. Assumes nothing.
+use Rattle.std.proofs.Common.{ap, ◌∙◌, rules}
+use Rattle.rules.specs.Calls.{call_end, end_answer}
+use Rattle.rules.specs.Numbers.{reply_number}
+use Rattle.rules.proofs.Promises.{reply_number_lem}
+use Rattle.amulingsad.proofs.amul_ask_end.Goals as goal
+
+pub returns : goal.returns
+unfolding call_end
+returns c =
+    let a = c.args in
+    let promise = c.ask_end.ensures in
+    record {
+      number = c.number_of.ensures ∙ ap reply_number promise.answer_is ∙ reply_number_lem (end_answer a.state.now a.end);
+      memory = promise.memory_is;
+    }
