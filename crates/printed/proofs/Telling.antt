@@ -110,8 +110,8 @@ pub end_prints : (st : State) (p e f : ℕ) (x y : Item) (z : Printed) → recor
 unfolding printed_at meeting
 end_prints st p e f x y z l is own partner other h =
     let there = subst (λ (k : ℕ). head_of (end_at st k) ≡ some y) partner other in
-    let here = rw (le-ltb p record_count l, sym is, own, there, sym partner) at h in
-    here
+    let here = rw (le-ltb p record_count l, sym is, own, there) at h in
+    subst (λ (k : ℕ). printed_meeting p (meet_heads st e k (some x) (some y)) ≡ some z) (sym partner) here
 
 -- an end with an empty queue prints nothing, nor does one whose partner has one
 pub own_empty : {A : Type 0} (st : State) (p e : ℕ) (z : Printed) → record_count ≤ p → e ≡ p - record_count

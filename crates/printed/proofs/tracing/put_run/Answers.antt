@@ -1,0 +1,44 @@
+-- The lines and the last one. Assumes nothing.
+use Rattle.std.proofs.Common.{ap, ◌∙◌, ◌+◌, ◌≤◌, ◌<◌, arith, length, rules}
+use Rattle.rules.specs.Run.{steps}
+use Rattle.rules.specs.Printed.{trace_budget, lines_text}
+use Rattle.rules.specs.Layout.{view}
+use Rattle.words.proofs.Parts.{length_put}
+use Rattle.keeping.proofs.Memories.{memory_length}
+use Rattle.text.proofs.Texts.{written_more, written_as}
+use Rattle.printed.specs.Meaning.{last_line}
+use Rattle.printed.specs.Traced.{trace_limit}
+use Rattle.printed.proofs.Lengths.{last_short}
+use Rattle.printed.proofs.Whole.{left_sound, run_text_lem}
+use Rattle.printed.proofs.tracing.put_run.Goals as goal
+use Rattle.printed.proofs.tracing.put_run.Goals.{After-verdict_of-verdict}
+
+pub verdict_of-verdict-requires : goal.verdict_of-verdict-requires
+verdict_of-verdict-requires c =
+    let s = left_sound _ _ c.put_steps-lines.ensures.ended in
+    (memory_length _ s, s, c.length_table-lengths.ensures)
+
+-- the last line, behind the others, is within the limit
+last_room : (c : After-verdict_of-verdict)
+    → let r = c.put_steps-lines.result in
+    r.end + length (last_line c.verdict_of-verdict.result r.made r.next) ≤ trace_limit
+last_room c =
+    let t = c.put_steps-lines.ensures in
+    let made = c.put_steps-lines.result.made in
+    let few : made < 100000 = omega (arith, t.budgeted) in
+    let short = last_short c.verdict_of-verdict.result made c.put_steps-lines.result.next few t.ended.next_in_range in
+    omega (arith, short, t.within, t.budgeted)
+
+pub put_last-requires : goal.put_last-requires
+put_last-requires c =
+    let text = lines_text 1 (steps trace_budget (view c.args.m.now) 0) in
+    let same = ap length c.put_steps-lines.ensures.written.memory ∙ length_put c.args.out.now 0 text in
+    omega (arith, last_room (goal.at.put_last-requires c).After-verdict_of-verdict, same, c.requires.1)
+
+pub returns : goal.returns
+returns c =
+    let t = c.put_steps-lines.ensures in record {
+      is = written_as (run_text_lem _ _ t.ended c.verdict_of-verdict.result c.verdict_of-verdict.ensures)
+          (written_more t.written c.put_last.ensures);
+      within = omega (arith, c.put_last.ensures.place, last_room (goal.at.returns c).After-verdict_of-verdict);
+    }

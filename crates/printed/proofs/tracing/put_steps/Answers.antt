@@ -1,0 +1,49 @@
+-- The lines one after the other. The invariant: those of the steps made so far stand in the buffer. Assumes nothing.
+use Rattle.std.proofs.Common.{◌≡◌, refl, ◌-◌, ◌≤◌, arith, length, w32, SFits, rules}
+use Rattle.rules.specs.Printed.{trace_budget}
+use Rattle.rules.specs.Layout.{view}
+use Rattle.keeping.proofs.Memories.{memory_length}
+use Rattle.runner.proofs.Making.{memory_sound}
+use Rattle.printed.proofs.RunLines.{LinesSoFar, no_lines, lines_end, budget_end, position_below, line_room, one_line}
+use Rattle.printed.proofs.tracing.put_steps.Goals as goal
+use Rattle.printed.proofs.tracing.put_steps.Goals.{In-Stepped}
+
+pub loop-made-init : goal.loop-made-init
+loop-made-init c = (omega arith, refl, refl, no_lines c.args.m.now c.args.out.now c.requires.0)
+
+pub step_forward-requires : goal.step_forward-requires
+step_forward-requires c =
+    let f = c.loop-made.invariant.3.so_far in
+    let s = memory_sound _ _ _ _ _ f in
+    record {
+      m_len = (memory_length _ s, f.in_range);
+      sound_memory = (s, c.requires.1);
+    }
+
+pub returns-in-Nowhere : goal.returns-in-Nowhere
+returns-in-Nowhere c =
+    let l = c.loop-made in
+    lines_end _ _ _ _ _ _ _ l.invariant.3 l.invariant.0 c.step_forward.ensures c.in-Nowhere.is
+
+-- the number of what is printed has 32 bits
+number_fits : (c : In-Stepped) → SFits w32 c.in-Stepped.x.number
+number_fits c = search rules
+
+pub put_line-end-requires : goal.put_line-end-requires
+put_line-end-requires c =
+    let l = c.loop-made in
+    let limit = c.requires.2 in
+    line_room _ _ _ _ _ _ _ l.invariant.3 c.step_forward.ensures _ c.in-Stepped.is c.loop-made-test.true
+    (number_fits (goal.at.put_line-end-requires c).In-Stepped) limit l.invariant.2
+
+pub position_after-next-requires : goal.position_after-next-requires
+position_after-next-requires c =
+    let l = c.loop-made in
+    position_below _ _ _ _ _ _ _ l.invariant.3 c.step_forward.ensures _ c.in-Stepped.is
+
+pub loop-made-preserved : goal.loop-made-preserved
+loop-made-preserved c =
+    let l = c.loop-made in
+    let one = one_line _ _ _ _ _ _ _ l.invariant.3 c.step_forward.ensures _ c.in-Stepped.is c.loop-made-test.true
+    (number_fits (goal.at.loop-made-preserved c).In-Stepped) c.position_after-next.ensures c.put_line-end.ensures in
+    (omega (arith, c.loop-made-test.true), omega arith, omega arith, one)
