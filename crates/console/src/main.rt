@@ -3,15 +3,15 @@
 
 #![tactic(auto)]
 
-ghost use Rattle.std.specs.Prelude.{◌≡◌, ◌≤◌, length};
+ghost use Rattle.std.specs.Prelude.{◌≡◌, ◌≤◌, length, IfOk};
 ghost use Rattle.rules.specs.Layout.{state_size};
 ghost use Rattle.answers.specs.Sizes.{byte_size, output_size};
 ghost use Rattle.console.specs.Sizes.{input_size};
 
 use answers::OUTPUT_SIZE;
 use commands::LINE_LIMIT;
-use libc::{STDIN_FILENO, STDOUT_FILENO};
 use rules::offsets::STATE_SIZE;
+use std::io::{self, Read};
 use text::length_before;
 
 const LINE_END: u8 = 10;
@@ -23,7 +23,7 @@ const BYTE_SIZE: usize = LINE_LIMIT / 2;
 
 // What of the input buffer is read and not yet answered, whether it is the rest of a line that was too long, and whether the input is at
 // its end.
-#[derive(Drop)]
+#[derive(Clone, Copy)]
 struct Reader {
     from: usize,
     to: usize,
@@ -32,14 +32,21 @@ struct Reader {
 }
 
 // A line is answered, unless it is the rest of one that was.
-fn answer_line(line: &[u8], skips: bool, state: &mut [u8], bytes: &mut [u8], out: &mut [u8])
+fn answer_line<R: Print>(
+    rt: &R,
+    line: &[u8],
+    skips: bool,
+    state: &mut [u8],
+    bytes: &mut [u8],
+    out: &mut [u8],
+) -> io::Result<()>
     requires { (length state.old ≡ state_size) × (length bytes.old ≡ byte_size) × (length out.old ≡ output_size) }
 {
     if skips {
-        return;
+        return Ok(());
     }
     let n = answers::answer(line, state, bytes, out);
-    io::write_all(STDOUT_FILENO, &out[0..n]);
+    rt.write_all(&out[0..n])
 }
 
 // The bytes from one place up to another go to the front.
@@ -54,82 +61,99 @@ fn to_front(input: &mut [u8], from: usize, to: usize)
 }
 
 // One read behind the first `to` bytes: how many there are then.
-fn read_more(input: &mut [u8], to: usize) -> usize
+fn read_more<I: Read>(reader: &mut I, input: &mut [u8], to: usize) -> io::Result<usize>
     requires { to ≤ length input.old }
-    ensures { (to ≤ result) × (result ≤ length input.new) }
+    ensures { IfOk result (λ n. (to ≤ n) × (n ≤ length input.new)) }
 {
-    let got = libc::read(STDIN_FILENO, &mut input[to..]);
-    to + io::count(got, &input[to..])
+    let got = reader.read(&mut input[to..])?;
+    Ok(to + got)
 }
 
 // The first `size` bytes hold no whole line: more is read. What fills the buffer is a line that is too long, and what stands in front of
 // the input's end is a line too.
-fn fill(
+fn fill<R: Print, I: Read>(
+    rt: &R,
+    reader: &mut I,
     size: usize,
     skips: bool,
     input: &mut [u8],
     state: &mut [u8],
     bytes: &mut [u8],
     out: &mut [u8],
-) -> Reader
+) -> io::Result<Reader>
     requires state_len { (length state.old ≡ state_size) × (length bytes.old ≡ byte_size) × (length out.old ≡ output_size) }
     requires size_in_bounds { size ≤ length input.old }
-    ensures { (result.from ≤ result.to) × (result.to ≤ length input.new) }
+    ensures { IfOk result (λ r. (r.from ≤ r.to) × (r.to ≤ length input.new)) }
 {
     if size == input.len() {
-        answer_line(input, skips, state, bytes, out);
-        return Reader {
+        answer_line(rt, input, skips, state, bytes, out)?;
+        return Ok(Reader {
             from: 0,
             to: 0,
             skips: true,
             ends: false,
-        };
+        });
     }
-    let to = read_more(input, size);
+    let to = read_more(reader, input, size)?;
     if size < to {
-        return Reader {
+        return Ok(Reader {
             from: 0,
             to,
             skips,
             ends: false,
-        };
+        });
     }
     if 0 < size {
-        answer_line(&input[0..size], skips, state, bytes, out);
+        answer_line(rt, &input[0..size], skips, state, bytes, out)?;
     }
-    Reader {
+    Ok(Reader {
         from: 0,
         to: 0,
         skips,
         ends: true,
-    }
+    })
 }
 
 // A whole line is answered, or more is read.
-fn turn(r: Reader, input: &mut [u8], state: &mut [u8], bytes: &mut [u8], out: &mut [u8]) -> Reader
+fn turn<R: Print, I: Read>(
+    rt: &R,
+    reader: &mut I,
+    r: Reader,
+    input: &mut [u8],
+    state: &mut [u8],
+    bytes: &mut [u8],
+    out: &mut [u8],
+) -> io::Result<Reader>
     requires state_len { (length state.old ≡ state_size) × (length bytes.old ≡ byte_size) × (length out.old ≡ output_size) }
     requires from_le_to { (r.from ≤ r.to) × (r.to ≤ length input.old) }
-    ensures { (result.from ≤ result.to) × (result.to ≤ length input.new) }
+    ensures { IfOk result (λ after. (after.from ≤ after.to) × (after.to ≤ length input.new)) }
 {
     let from = r.from;
     let to = r.to;
     let n = length_before(&input[from..to], LINE_END);
     if n < to - from {
-        answer_line(&input[from..from + n], r.skips, state, bytes, out);
-        return Reader {
+        answer_line(rt, &input[from..from + n], r.skips, state, bytes, out)?;
+        return Ok(Reader {
             from: from + n + 1,
             to,
             skips: false,
             ends: false,
-        };
+        });
     }
     to_front(input, from, to);
-    fill(to - from, r.skips, input, state, bytes, out)
+    fill(rt, reader, to - from, r.skips, input, state, bytes, out)
 }
 
 // Turn after turn until the input ends. A proved loop has to end, and nothing says that an input does: so the turns are counted down, from
 // a number that no use of the console comes to.
-fn serve(input: &mut [u8], state: &mut [u8], bytes: &mut [u8], out: &mut [u8])
+fn serve<R: Print, I: Read>(
+    rt: &R,
+    reader: &mut I,
+    input: &mut [u8],
+    state: &mut [u8],
+    bytes: &mut [u8],
+    out: &mut [u8],
+) -> io::Result<()>
     requires { (length state.old ≡ state_size) × (length bytes.old ≡ byte_size) × (length out.old ≡ output_size) }
 {
     let mut r = Reader {
@@ -140,13 +164,14 @@ fn serve(input: &mut [u8], state: &mut [u8], bytes: &mut [u8], out: &mut [u8])
     };
     let mut turns = u64::MAX;
     while 0 < turns {
-        let next = turn(r, input, state, bytes, out);
+        let next = turn(rt, reader, r, input, state, bytes, out)?;
         if next.ends {
-            return;
+            return Ok(());
         }
         r = next;
         turns -= 1;
     }
+    Ok(())
 }
 
 // The state memory, a line and one character more, the bytes of a line, and an answer: each with its length, which lending it needs.
@@ -174,11 +199,11 @@ fn output_buffer() -> [u8; OUTPUT_SIZE]
     [0; OUTPUT_SIZE]
 }
 
-fn main() {
+fn main(rt: HostRuntime) -> io::Result<()> {
     let mut state = state_memory();
     let mut input = input_buffer();
     let mut bytes = byte_buffer();
     let mut out = output_buffer();
     memory::start(&mut state);
-    serve(&mut input, &mut state, &mut bytes, &mut out);
+    serve(&rt, &mut rt.stdin(), &mut input, &mut state, &mut bytes, &mut out)
 }

@@ -3,8 +3,8 @@
 
 #![tactic(auto)]
 
-use libc::{STDIN_FILENO, STDOUT_FILENO};
 use printed::TRACE_LIMIT;
+use std::io;
 
 // One byte more than the longest image has, to see an input that is longer.
 const INPUT_SIZE: usize = 8193;
@@ -18,10 +18,10 @@ fn output_buffer() -> [u8; TRACE_LIMIT] {
     [0; TRACE_LIMIT]
 }
 
-fn main() {
-    let mut input = input_buffer();
-    let n = io::read_full(STDIN_FILENO, &mut input);
+fn main(rt: HostRuntime) -> io::Result<()> {
+    let mut image = input_buffer();
+    let n = input::read_full(&mut rt.stdin(), &mut image)?;
     let mut out = output_buffer();
-    let end = printed::trace(&input[..n], &mut out);
-    io::write_all(STDOUT_FILENO, &out[..end]);
+    let end = printed::trace(&image[..n], &mut out);
+    rt.write_all(&out[..end])
 }

@@ -6,8 +6,9 @@
 ghost use Rattle.std.specs.Prelude.{◌≤◌, length};
 ghost use Rattle.printed.specs.Traced.{trace_limit};
 
-use libc::STDOUT_FILENO;
 use printed::TRACE_LIMIT;
+use std::rt::Files;
+use std::{env, fs, io};
 
 // One byte more than the longest image has, to see an input that is longer.
 const INPUT_SIZE: usize = 8193;
@@ -22,41 +23,21 @@ fn output_buffer() -> [u8; TRACE_LIMIT] {
 }
 
 // The image in a file.
-fn show(name: &[u8], out: &mut [u8])
+fn show<R: Files + Print>(rt: &R, name: &str, out: &mut [u8]) -> io::Result<()>
     requires { trace_limit ≤ length out.old }
 {
-    io::write_all(STDOUT_FILENO, name);
-    io::write_all(STDOUT_FILENO, b"\n");
-    let fd = os::open_read(name);
-    let mut input = input_buffer();
-    let n = io::read_full(fd, &mut input);
-    libc::close(fd);
-    let end = printed::trace(&input[..n], out);
-    io::write_all(STDOUT_FILENO, &out[..end]);
+    println!(rt; "{name}")?;
+    let mut file = fs::open(rt, name)?;
+    let mut image = input_buffer();
+    let n = input::read_full(&mut file, &mut image)?;
+    let end = printed::trace(&image[..n], out);
+    rt.write_all(&out[..end])
 }
 
-// The image that argument i names.
-fn show_argument(i: usize, out: &mut [u8])
-    requires { trace_limit ≤ length out.old }
-{
-    let mut name = io::buffer();
-    let n = os::arg(i, &mut name);
-    show(&name[..n], out);
-}
-
-// Every image that is named.
-fn show_all(out: &mut [u8])
-    requires { trace_limit ≤ length out.old }
-{
-    let count = os::arg_count();
-    let mut i = 1;
-    while i < count {
-        show_argument(i, out);
-        i += 1;
-    }
-}
-
-fn main() {
+fn main(rt: HostRuntime) -> io::Result<()> {
     let mut out = output_buffer();
-    show_all(&mut out);
+    for name in env::args(&rt)?.skip(1) {
+        show(&rt, name.as_str(), &mut out)?;
+    }
+    Ok(())
 }
