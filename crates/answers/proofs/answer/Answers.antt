@@ -1,0 +1,197 @@
+-- Each command: there is room for its answer, and it is what the line asks for. Assumes nothing.
+use Rattle.std.proofs.Common.{◌≡◌, refl, sym, ap, ◌∙◌, List, ℕ, ◌≤◌, arith, length, take, length-take, length-take-le, rules}
+use Rattle.rules.specs.Layout.{state_size}
+use Rattle.text.specs.Written.{Written}
+use Rattle.commands.specs.Asked.{asked}
+use Rattle.commands.specs.Meaning.{meaning, byte_count}
+use Rattle.commands.specs.declared.Command.{Command}
+use Rattle.answers.specs.Sizes.{byte_size, output_size}
+use Rattle.answers.specs.Answers.{answer_text, state_after}
+use Rattle.answers.proofs.Whole.{answer_room, answer_given}
+use Rattle.answers.proofs.answer.Goals as goal
+use Rattle.answers.proofs.answer.Goals.{After-parse}
+
+-- the line, the state memory and the output at the start, and the bytes that the line says
+abbrev line : After-parse → List ℕ
+line c = c.before.before.before.before.before.before.args.line.now
+
+abbrev state : After-parse → List ℕ
+state c = c.before.before.before.before.before.before.args.state.now
+
+abbrev out : After-parse → List ℕ
+out c = c.before.before.before.before.before.before.args.out.now
+
+abbrev bytes : After-parse → List ℕ
+bytes c = c.parse.new.bytes
+
+size : (c : After-parse) → length (state c) ≡ state_size
+size c = c.requires.0
+
+-- the bytes that a command speaks of are there
+within : (c : After-parse) {x : Command} → c.parse.result ≡ x → byte_count x ≤ length (bytes c)
+within c is = omega (arith, ap byte_count is, c.parse.ensures.within)
+
+small : (c : After-parse) {x : Command} → c.parse.result ≡ x → length (take (byte_count x) (bytes c)) ≤ byte_size
+small c {x} is = omega (arith, length-take (byte_count x) (bytes c))
+
+-- what the line asks for
+asks : (c : After-parse) {x : Command} → c.parse.result ≡ x → meaning (bytes c) x ≡ asked (line c)
+asks c is = ap (meaning (bytes c)) (sym is) ∙ c.parse.ensures.is
+
+-- there is room for its answer
+room : (c : After-parse) {x : Command} → c.parse.result ≡ x
+    → length (answer_text (line c) (state c) (meaning (bytes c) x)) ≤ length (out c)
+room c {x} is =
+    let long = c.requires.2 in
+    answer_room (line c) (state c) (meaning (bytes c) x) (asks c is) (size c) (out c) long
+
+-- and it is what the line asks for
+given : (c : After-parse) {x : Command} → c.parse.result ≡ x → {printed left : List ℕ} {r : ℕ}
+    → Written (out c) 0 (answer_text (line c) (state c) (meaning (bytes c) x)) printed r → left ≡ state_after (state c) (meaning (bytes c) x)
+    → Written (out c) 0 (answer_text (line c) (state c) (asked (line c))) printed r
+    × ((left ≡ state_after (state c) (asked (line c))) × (r ≤ output_size))
+given c {x} is says leaves = answer_given (line c) (state c) (meaning (bytes c) x) (asks c is) (size c) says leaves
+
+pub unknown-requires : goal.unknown-requires
+unknown-requires c = room (goal.at.unknown-requires c).After-parse c.in-Unknown.is
+
+pub remark-requires : goal.remark-requires
+remark-requires c = room (goal.at.remark-requires c).After-parse c.in-Remark.is
+
+pub load-requires : goal.load-requires
+load-requires c = room (goal.at.load-requires c).After-parse c.in-Load.is
+
+pub write-requires : goal.write-requires
+write-requires c = room (goal.at.write-requires c).After-parse c.in-Write.is
+
+pub step_record-requires : goal.step_record-requires
+step_record-requires c = room (goal.at.step_record-requires c).After-parse c.in-Record.is
+
+pub step_end-requires : goal.step_end-requires
+step_end-requires c = room (goal.at.step_end-requires c).After-parse c.in-End.is
+
+pub run-requires : goal.run-requires
+run-requires c = room (goal.at.run-requires c).After-parse c.in-Run.is
+
+pub free-requires : goal.free-requires
+free-requires c = room (goal.at.free-requires c).After-parse c.in-Free.is
+
+pub dump-requires : goal.dump-requires
+dump-requires c =
+    record {
+      state_len = size (goal.at.dump-requires c).After-parse;
+      state_in_bounds = room (goal.at.dump-requires c).After-parse c.in-Dump.is;
+    }
+
+pub peek-requires : goal.peek-requires
+peek-requires c =
+    record {
+      state_len = size (goal.at.peek-requires c).After-parse;
+      count_in_bounds = room (goal.at.peek-requires c).After-parse c.in-Peek.is;
+    }
+
+pub poke-requires : goal.poke-requires
+poke-requires c =
+    record {
+      state_len = (size (goal.at.poke-requires c).After-parse, small (goal.at.poke-requires c).After-parse c.in-Poke.is);
+      bytes_in_bounds = room (goal.at.poke-requires c).After-parse c.in-Poke.is;
+    }
+
+pub returns-in-Unknown : goal.returns-in-Unknown
+returns-in-Unknown c =
+    let told = given (goal.at.returns-in-Unknown c).After-parse c.in-Unknown.is c.unknown.ensures refl in
+    record {
+      says = told.0;
+      leaves = told.1.0;
+      within = told.1.1;
+    }
+
+pub returns-in-Remark : goal.returns-in-Remark
+returns-in-Remark c =
+    let told = given (goal.at.returns-in-Remark c).After-parse c.in-Remark.is c.remark.ensures refl in
+    record {
+      says = told.0;
+      leaves = told.1.0;
+      within = told.1.1;
+    }
+
+pub returns-in-Load : goal.returns-in-Load
+returns-in-Load c =
+    let told = given (goal.at.returns-in-Load c).After-parse c.in-Load.is c.load.ensures.says c.load.ensures.leaves in
+    record {
+      says = told.0;
+      leaves = told.1.0;
+      within = told.1.1;
+    }
+
+pub returns-in-Write : goal.returns-in-Write
+returns-in-Write c =
+    let told = given (goal.at.returns-in-Write c).After-parse c.in-Write.is c.write.ensures refl in
+    record {
+      says = told.0;
+      leaves = told.1.0;
+      within = told.1.1;
+    }
+
+pub returns-in-Record : goal.returns-in-Record
+returns-in-Record c =
+    let told = given (goal.at.returns-in-Record c).After-parse c.in-Record.is c.step_record.ensures.says c.step_record.ensures.leaves in
+    record {
+      says = told.0;
+      leaves = told.1.0;
+      within = told.1.1;
+    }
+
+pub returns-in-End : goal.returns-in-End
+returns-in-End c =
+    let told = given (goal.at.returns-in-End c).After-parse c.in-End.is c.step_end.ensures.says c.step_end.ensures.leaves in
+    record {
+      says = told.0;
+      leaves = told.1.0;
+      within = told.1.1;
+    }
+
+pub returns-in-Run : goal.returns-in-Run
+returns-in-Run c =
+    let told = given (goal.at.returns-in-Run c).After-parse c.in-Run.is c.run.ensures.says c.run.ensures.leaves in
+    record {
+      says = told.0;
+      leaves = told.1.0;
+      within = told.1.1;
+    }
+
+pub returns-in-Free : goal.returns-in-Free
+returns-in-Free c =
+    let told = given (goal.at.returns-in-Free c).After-parse c.in-Free.is c.free.ensures refl in
+    record {
+      says = told.0;
+      leaves = told.1.0;
+      within = told.1.1;
+    }
+
+pub returns-in-Dump : goal.returns-in-Dump
+returns-in-Dump c =
+    let told = given (goal.at.returns-in-Dump c).After-parse c.in-Dump.is c.dump.ensures refl in
+    record {
+      says = told.0;
+      leaves = told.1.0;
+      within = told.1.1;
+    }
+
+pub returns-in-Peek : goal.returns-in-Peek
+returns-in-Peek c =
+    let told = given (goal.at.returns-in-Peek c).After-parse c.in-Peek.is c.peek.ensures refl in
+    record {
+      says = told.0;
+      leaves = told.1.0;
+      within = told.1.1;
+    }
+
+pub returns-in-Poke : goal.returns-in-Poke
+returns-in-Poke c =
+    let told = given (goal.at.returns-in-Poke c).After-parse c.in-Poke.is c.poke.ensures.says c.poke.ensures.leaves in
+    record {
+      says = told.0;
+      leaves = told.1.0;
+      within = told.1.1;
+    }

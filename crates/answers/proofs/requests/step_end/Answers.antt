@@ -1,0 +1,25 @@
+-- The reply's number, and the memory that `machine` leaves. Assumes nothing.
+use Rattle.std.proofs.Common.{ap, arith, length, rules}
+use Rattle.rules.specs.Calls.{call_end, end_answer}
+use Rattle.rules.specs.Text.{text}
+use Rattle.text.proofs.Texts.{written_as}
+use Rattle.answers.specs.Answers.{end_answered}
+use Rattle.answers.proofs.Cases.{step_replied}
+use Rattle.answers.proofs.requests.step_end.Goals as goal
+
+pub put_step-requires : goal.put_step-requires
+unfolding end_answered call_end text
+put_step-requires c =
+    let a = c.args in
+    let e = step_replied (text "E ") a.n (end_answer a.state.now a.n) c.ask_end-reply.ensures.answer_is in
+    omega (arith, ap length e, c.requires)
+
+pub returns : goal.returns
+unfolding end_answered call_end text
+returns c =
+    let a = c.args in
+    let e = step_replied (text "E ") a.n (end_answer a.state.now a.n) c.ask_end-reply.ensures.answer_is in
+    record {
+      says = written_as e c.put_step.ensures;
+      leaves = c.ask_end-reply.ensures.memory_is;
+    }
