@@ -205,5 +205,12 @@ fn main(rt: HostRuntime) -> io::Result<()> {
     let mut bytes = byte_buffer();
     let mut out = output_buffer();
     memory::start(&mut state);
-    serve(&rt, &mut rt.stdin(), &mut input, &mut state, &mut bytes, &mut out)
+    serve(
+        &rt,
+        &mut rt.stdin(),
+        &mut input,
+        &mut state,
+        &mut bytes,
+        &mut out,
+    )
 }
