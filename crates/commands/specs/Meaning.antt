@@ -3,9 +3,7 @@ use Rattle.std.specs.Prelude.{ℕ, List, take}
 use Rattle.commands.specs.Asked.{Asked, unknown, remark, free, dump, load, write, record_step, End-step, run, peek, poke}
 use Rattle.commands.specs.Asked.{number_limit, budget_limit}
 use Rattle.commands.specs.declared.Name.{Name}
-use Rattle.commands.specs.declared.Name.TheVariants as Name
 use Rattle.commands.specs.declared.Command.{Command}
-use Rattle.commands.specs.declared.Command.TheVariants as Command
 
 -- what is asked for
 abbrev pub meaning : List ℕ → Command → Asked

@@ -2,7 +2,6 @@
 use Rattle.std.specs.Prelude.{ℕ, List, length}
 use Rattle.rules.specs.Refusal.{Answer, refused, done}
 use Rattle.image.specs.declared.Found.{Found}
-use Rattle.image.specs.declared.Found.TheVariants as Found
 
 -- what the reader found: the code's length, or its number
 abbrev pub found_answer : Found → Answer ℕ

@@ -1,5 +1,5 @@
 -- The reply's number, and the memory that `machine` leaves. Assumes nothing.
-use Rattle.std.proofs.Common.{ap, ◌∙◌, rules}
+use Rattle.std.proofs.Common.{ap, ◌∙◌}
 use Rattle.rules.specs.Calls.{call_record, record_answer}
 use Rattle.rules.specs.Numbers.{reply_number}
 use Rattle.rules.proofs.Promises.{reply_number_lem}

@@ -1,5 +1,5 @@
 -- Each command: there is room for its answer, and it is what the line asks for. Assumes nothing.
-use Rattle.std.proofs.Common.{◌≡◌, refl, sym, ap, ◌∙◌, List, ℕ, ◌≤◌, arith, length, take, length-take, length-take-le, rules}
+use Rattle.std.proofs.Common.{◌≡◌, refl, sym, ap, ◌∙◌, List, ℕ, ◌≤◌, arith, length, take, length-take}
 use Rattle.rules.specs.Layout.{state_size}
 use Rattle.text.specs.Written.{Written}
 use Rattle.commands.specs.Asked.{asked}
@@ -13,13 +13,13 @@ use Rattle.answers.proofs.answer.Goals.{After-parse}
 
 -- the line, the state memory and the output at the start, and the bytes that the line says
 abbrev line : After-parse → List ℕ
-line c = c.before.before.before.before.before.before.args.line.now
+line c = c.args.line.now
 
 abbrev state : After-parse → List ℕ
-state c = c.before.before.before.before.before.before.args.state.now
+state c = c.args.state.now
 
 abbrev out : After-parse → List ℕ
-out c = c.before.before.before.before.before.before.args.out.now
+out c = c.args.out.now
 
 abbrev bytes : After-parse → List ℕ
 bytes c = c.parse.new.bytes

@@ -1,5 +1,5 @@
 -- `code_is_canonical` tests the length, then what stands behind the code. Assumes nothing.
-use Rattle.std.proofs.Common.{sym, ap, ◌∙◌, ℕ, ◌+◌, le-leb, rules}
+use Rattle.std.proofs.Common.{sym, ap, ◌∙◌, ℕ, ◌+◌, le-leb}
 use borrow.Author.Tests.{lt-leb}
 use Rattle.rules.specs.Limits.{code_limit}
 use Rattle.rules.specs.Layout.{records_at}

@@ -1,6 +1,5 @@
 -- `is_canonical` tests in the order of the definition. Assumes nothing.
-use Rattle.std.proofs.Common.{sym, ◌∙◌, [], ◌∷◌, rules}
-use borrow.Author.Tests.{not-true, not-false}
+use Rattle.std.proofs.Common.{sym, ◌∙◌, [], ◌∷◌}
 use Rattle.rules.specs.Limits.{record_count, end_count}
 use Rattle.rules.specs.SoundTest.{every}
 use Rattle.canonical.specs.Canonical.{canonical_code, record_test, end_test, canonical_bytes}

@@ -1,5 +1,4 @@
 -- `is_free` shifts bit e to the lowest place. Assumes nothing.
-use Rattle.std.proofs.Common.{rules}
 use Rattle.canonical.proofs.Cells.{bit_is}
 use Rattle.canonical.proofs.is_free.Goals as goal
 

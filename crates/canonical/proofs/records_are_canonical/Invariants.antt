@@ -1,11 +1,8 @@
 -- `records_are_canonical` looks at one record after the other. The invariant: the first i pass. Assumes nothing.
-use Rattle.std.proofs.Common.{◌≡◌, ap, ◌∙◌, Bool, true, List, ℕ, ◌+◌, ◌-◌, ◌*◌, ◌≤◌, arith, rules}
+use Rattle.std.proofs.Common.{◌≡◌, true, ◌-◌, ◌≤◌}
 use Rattle.rules.specs.Limits.{record_count}
 use Rattle.rules.specs.SoundTest.{every}
-use Rattle.rules.specs.Layout.{records_at, record_size}
-use Rattle.canonical.specs.Canonical.{part, canonical_record, record_test}
-use Rattle.canonical.proofs.Tests.{every_none, turn_fails, turn_passes, reached}
-use Rattle.canonical.proofs.Bytes.{part_is}
+use Rattle.canonical.specs.Canonical.{record_test}
 use Rattle.canonical.proofs.records_are_canonical.Given as goal
 
 abbrev pub invariant-loop-i : goal.invariant-loop-i

@@ -1,5 +1,5 @@
 -- `bare` compares with the names in the order of the definition. Assumes nothing.
-use Rattle.std.proofs.Common.{refl, sym, ◌∙◌, rules}
+use Rattle.std.proofs.Common.{refl, sym, ◌∙◌}
 use Rattle.rules.specs.Text.{text}
 use Rattle.commands.specs.Asked.{bare_asked}
 use Rattle.commands.proofs.bare.Goals as goal

@@ -1,5 +1,5 @@
 -- `full` is one case of the definition for each name. Assumes nothing.
-use Rattle.std.proofs.Common.{sym, ap, ◌∙◌, arith, rules}
+use Rattle.std.proofs.Common.{sym, ap, ◌∙◌, arith}
 use Rattle.commands.specs.declared.Name.{Name}
 use Rattle.commands.specs.Asked.{full_asked}
 use Rattle.commands.proofs.full.Goals as goal

@@ -1,5 +1,5 @@
 -- `name_in` compares with the names in the order of the definition. Assumes nothing.
-use Rattle.std.proofs.Common.{refl, sym, ◌∙◌, rules}
+use Rattle.std.proofs.Common.{refl, sym, ◌∙◌}
 use Rattle.rules.specs.Text.{text}
 use Rattle.commands.specs.Asked.{name_in}
 use Rattle.commands.proofs.name_in.Goals as goal

@@ -1,8 +1,8 @@
 -- `parse` cuts a line that is no remark at its first space. Assumes nothing.
-use Rattle.std.proofs.Common.{sym, ap, ◌∙◌, ◌+◌, ◌-◌, arith, length, take, drop, length-take-le, rules}
+use Rattle.std.proofs.Common.{sym, ap, ◌∙◌, ◌+◌, ◌-◌, arith, length, take, drop}
 use Rattle.commands.specs.declared.Name.{Name}
 use Rattle.commands.specs.Asked.{full_asked}
-use Rattle.commands.proofs.Parsing.{rest_length, line_long, line_remark, line_bare, line_full}
+use Rattle.commands.proofs.Parsing.{line_long, line_remark, line_bare, line_full}
 use Rattle.commands.proofs.parse.Goals as goal
 
 pub returns-then-line-gt-LINE_LIMIT : goal.returns-then-line-gt-LINE_LIMIT

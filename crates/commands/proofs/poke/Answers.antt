@@ -1,8 +1,8 @@
 -- `poke` reads the first word, then what stands behind the space. Assumes nothing.
-use Rattle.std.proofs.Common.{sym, ap, ◌∙◌, List, arith, ℕ, ◌+◌, length-take-le, rules}
+use Rattle.std.proofs.Common.{sym, ap, ◌∙◌, List, arith, ℕ}
 use Rattle.text.specs.Read.{number_read}
 use Rattle.commands.specs.Asked.{Asked, number_limit, full_asked, with_bytes, poke}
-use Rattle.commands.proofs.Parsing.{two_none, two_number, two_bad, rest_length}
+use Rattle.commands.proofs.Parsing.{two_none, two_number, two_bad}
 use Rattle.commands.proofs.poke.Goals as goal
 
 -- what is asked with the place and the word behind it

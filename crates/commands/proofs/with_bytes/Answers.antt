@@ -1,6 +1,5 @@
 -- `with_bytes` reads a hex word to the front of the buffer. Assumes nothing.
-use Rattle.std.proofs.Common.{sym, ◌∙◌, arith, rules}
-use borrow.Author.Tests.{not-true, not-false}
+use Rattle.std.proofs.Common.{sym, ◌∙◌, arith}
 use Rattle.commands.specs.Meaning.{asks}
 use Rattle.commands.proofs.Parsing.{not_bytes, bytes_are, bytes_front}
 use Rattle.commands.proofs.with_bytes.Goals as goal

@@ -1,5 +1,5 @@
 -- `with_numbers` reads the first word, then what stands behind the space. Assumes nothing.
-use Rattle.std.proofs.Common.{refl, sym, ap, ◌∙◌, List, [], ℕ, arith, take, length-take-le, rules}
+use Rattle.std.proofs.Common.{refl, sym, ap, ◌∙◌, List, [], ℕ, arith, take}
 use Rattle.text.specs.Digits.{number_in}
 use Rattle.text.specs.Read.{number_read}
 use Rattle.commands.specs.declared.Name.{Name}

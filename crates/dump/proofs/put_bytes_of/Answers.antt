@@ -1,5 +1,5 @@
 -- Hex, or `-`. Assumes nothing.
-use Rattle.std.proofs.Common.{arith, ap, length, rules}
+use Rattle.std.proofs.Common.{arith, ap, length}
 use Rattle.text.proofs.Texts.{written_as, room_as}
 use Rattle.text.proofs.Hex.{length_text}
 use Rattle.dump.proofs.Parts.{no_code, some_code}

@@ -1,10 +1,9 @@
 -- One line after the other. The invariant: the lines of the first e ends stand. Assumes nothing.
-use Rattle.std.proofs.Common.{◌-◌, rules}
+use Rattle.std.proofs.Common.{◌-◌}
 use Rattle.rules.specs.Limits.{end_count}
-use Rattle.rules.specs.State.{free_end}
 use Rattle.rules.specs.Layout.{view}
-use Rattle.dump.specs.Shown.{end_text, ends_text}
-use Rattle.dump.proofs.OneByOne.{LinesTo, no_line, line_room, line_more, all_lines}
+use Rattle.dump.specs.Shown.{end_text}
+use Rattle.dump.proofs.OneByOne.{LinesTo}
 use Rattle.dump.proofs.put_ends.Given as goal
 
 abbrev pub invariant-loop-e : goal.invariant-loop-e

@@ -1,10 +1,9 @@
 -- One line after the other. The invariant: the lines of the first r records stand. Assumes nothing.
-use Rattle.std.proofs.Common.{◌-◌, rules}
+use Rattle.std.proofs.Common.{◌-◌}
 use Rattle.rules.specs.Limits.{record_count}
-use Rattle.rules.specs.State.{free_record}
 use Rattle.rules.specs.Layout.{view}
-use Rattle.dump.specs.Shown.{record_text, records_text}
-use Rattle.dump.proofs.OneByOne.{LinesTo, no_line, line_room, line_more, all_lines}
+use Rattle.dump.specs.Shown.{record_text}
+use Rattle.dump.proofs.OneByOne.{LinesTo}
 use Rattle.dump.proofs.put_records.Given as goal
 
 abbrev pub invariant-loop-r : goal.invariant-loop-r

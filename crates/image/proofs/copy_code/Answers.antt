@@ -1,6 +1,5 @@
 -- `copy_code` copies one run of the code for each block. The invariant: data up to p is copied, which for i blocks is all of theirs, but
-use Rattle.std.proofs.Common.{◌≡◌, refl, sym, ◌∙◌, ◌+◌, ◌-◌, ◌*◌, ◌≤◌, min, max, arith, length, take, length-take, take_all, rules}
-use Rattle.words.specs.Parts.{put_at}
+use Rattle.std.proofs.Common.{◌≡◌, sym, ◌∙◌, ◌+◌, ◌-◌, ◌*◌, ◌≤◌, arith, length, length-take, take_all}
 use Rattle.rules.specs.Image.{data_size, head_size, blocks_in, code_length, code_in}
 use Rattle.image.proofs.Right.{Right, right_of}
 use Rattle.image.proofs.Data.{length_is, code_size}

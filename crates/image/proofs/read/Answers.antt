@@ -1,5 +1,5 @@
 -- `read` tests the rows of 20 and 21 in their order and leaves those of 22 and 23 to `read_data`. Assumes nothing.
-use Rattle.std.proofs.Common.{◌≡◌, sym, ap, ◌∙◌, true, not, ℕ, ◌*◌, length, rules, eq-eqb, ne_eqb, lt-ltb, le-ltb}
+use Rattle.std.proofs.Common.{◌≡◌, sym, ap, ◌∙◌, true, not, ℕ, ◌*◌, length, eq-eqb, ne_eqb, lt-ltb, le-ltb}
 use Rattle.rules.specs.Refusal.{refused, done}
 use Rattle.rules.specs.Image.{block_size, block_limit, blocks_in, code_in, read_causes, read_image}
 use Rattle.image.specs.Answers.{length_read}

@@ -1,5 +1,5 @@
 -- The start state, then the code, then its length. Assumes nothing.
-use Rattle.std.proofs.Common.{ap, ◌∙◌, List, ℕ, rules}
+use Rattle.std.proofs.Common.{ap, ◌∙◌, List, ℕ}
 use Rattle.rules.specs.Bytes.{bytes_of}
 use Rattle.rules.specs.Image.{code_in}
 use Rattle.words.specs.Parts.{put_at}

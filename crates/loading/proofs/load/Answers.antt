@@ -1,5 +1,5 @@
 -- load: 24, what the reader says, or the start state with the image's code. Assumes nothing.
-use Rattle.std.proofs.Common.{sym, ap, ◌∙◌, arith, rules}
+use Rattle.std.proofs.Common.{sym, ap, ◌∙◌, arith}
 use Rattle.image.specs.Answers.{found_answer}
 use Rattle.image.proofs.Answers.{found_code, found_refused}
 use Rattle.loading.proofs.Loads.{code_long, length_wrong, image_refused, image_loaded}

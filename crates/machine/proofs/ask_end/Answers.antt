@@ -1,5 +1,5 @@
 -- 24, 1, or what the end is told. Assumes nothing.
-use Rattle.std.proofs.Common.{sym, ◌∙◌, rules}
+use Rattle.std.proofs.Common.{sym, ◌∙◌}
 use Rattle.machine.proofs.FirstRows.{sound_so, end_refused, end_asked}
 use Rattle.machine.proofs.ask_end.Goals as goal
 

@@ -1,5 +1,5 @@
 -- 24, 1, or what the record is told. Assumes nothing.
-use Rattle.std.proofs.Common.{sym, ◌∙◌, rules}
+use Rattle.std.proofs.Common.{sym, ◌∙◌}
 use Rattle.keeping.proofs.Memories.{memory_length}
 use Rattle.machine.proofs.FirstRows.{sound_so, record_refused, record_asked}
 use Rattle.machine.proofs.ask_record.Goals as goal

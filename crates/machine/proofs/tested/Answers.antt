@@ -1,6 +1,5 @@
 -- 24, 1, or neither. Assumes nothing.
-use Rattle.std.proofs.Common.{sym, ◌∙◌, arith, rules}
-use borrow.Author.Tests.{not-true, not-false}
+use Rattle.std.proofs.Common.{sym, ◌∙◌, arith}
 use Rattle.machine.proofs.FirstRows.{another_length, not_sound, is_right}
 use Rattle.machine.proofs.tested.Goals as goal
 

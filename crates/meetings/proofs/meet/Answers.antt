@@ -1,10 +1,10 @@
 -- What two items make: 18, or the step for that case. Assumes nothing.
-use Rattle.std.proofs.Common.{◌≡◌, refl, ap, ◌∙◌, rules}
+use Rattle.std.proofs.Common.{◌≡◌, refl, ap, ◌∙◌}
 use mathlib.Core.Option.{some}
 use Rattle.rules.specs.EndStep.{meet_heads}
 use Rattle.rules.specs.Layout.{view}
 use Rattle.ends.specs.Items.{item_of}
-use Rattle.stepping.proofs.Steps.{refused_step, promised_as}
+use Rattle.stepping.proofs.Steps.{refused_step}
 use Rattle.meetings.specs.declared.heads.Meeting.{Meeting}
 use Rattle.meetings.specs.Heads.{meeting_in, RightIn}
 use Rattle.meetings.specs.Stepped.{ask_met}

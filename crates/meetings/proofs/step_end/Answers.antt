@@ -1,5 +1,5 @@
 -- 16 for a number over the last one and for a free end, 17 where a queue is empty, then what the heads make. Assumes nothing.
-use Rattle.std.proofs.Common.{◌≡◌, sym, ap, ◌∙◌, false, ◌<◌, le-leb, rules}
+use Rattle.std.proofs.Common.{◌≡◌, sym, ap, ◌∙◌, false, ◌<◌, le-leb}
 use borrow.Author.Tests.{lt-leb}
 use Rattle.rules.specs.Limits.{end_count}
 use Rattle.rules.specs.State.{end_at, head_of, is_free_end}

@@ -1,5 +1,5 @@
 -- `clear` stores zeros one after the other. The invariant: the first i are written. Assumes nothing.
-use Rattle.std.proofs.Common.{◌≡◌, refl, sym, ap, ◌∙◌, List, [], ℕ, ◌+◌, ◌-◌, ◌≤◌, ◌<◌, arith, length, get_or, set, take, length-set, take_all, rules}
+use Rattle.std.proofs.Common.{◌≡◌, sym, ap, ◌∙◌, List, [], ℕ, ◌+◌, ◌<◌, arith, get_or, set, take, length-set, take_all}
 use Rattle.rules.specs.Bytes.{pad}
 use Rattle.words.specs.Parts.{put_at}
 use Rattle.words.proofs.Parts.{put_next}

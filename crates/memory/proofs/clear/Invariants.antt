@@ -1,9 +1,7 @@
 -- `clear` stores zeros one after the other. The invariant: the first i are written. Assumes nothing.
-use Rattle.std.proofs.Common.{◌≡◌, refl, sym, ap, ◌∙◌, List, [], ℕ, ◌+◌, ◌-◌, ◌≤◌, ◌<◌, arith, length, get_or, set, take, length-set, take_all, rules}
+use Rattle.std.proofs.Common.{◌≡◌, [], ◌-◌, ◌≤◌, length, take}
 use Rattle.rules.specs.Bytes.{pad}
 use Rattle.words.specs.Parts.{put_at}
-use Rattle.words.proofs.Parts.{put_next}
-use Rattle.words.proofs.Pads.{length_pad, get_d_pad}
 use Rattle.memory.proofs.clear.Given as goal
 
 abbrev pub invariant-loop-i : goal.invariant-loop-i

@@ -1,5 +1,5 @@
 -- `code` is the part of the memory that `view` reads the code from. Assumes nothing.
-use Rattle.std.proofs.Common.{◌≡◌, ap, ◌∙◌, ℕ, ◌+◌, ◌-◌, arith, take, drop, rules}
+use Rattle.std.proofs.Common.{◌≡◌, ap, ◌∙◌, ℕ, ◌+◌, ◌-◌, arith, take, drop}
 use Rattle.rules.specs.Layout.{view}
 use Rattle.memory.proofs.code.Goals as goal
 

@@ -1,11 +1,9 @@
 -- `put_cells` stores the cells one after the other. The invariant: the first k are written. Assumes nothing.
-use Rattle.std.proofs.Common.{◌≡◌, refl, ap, ◌∙◌, List, ℕ, ◌+◌, ◌*◌, ◌-◌, ◌≤◌, ◌<◌, arith, length, get_or, take, take_all, rules}
+use Rattle.std.proofs.Common.{◌≡◌, ◌-◌, ◌≤◌, length, take}
 use Rattle.rules.specs.Bytes.{bytes_of, flat}
 use Rattle.rules.specs.Layout.{cell_size, queues_at}
 use Rattle.memory.specs.Sections.{cell_count}
 use Rattle.words.specs.Parts.{put_at}
-use Rattle.words.proofs.Numbers.{length_bytes}
-use Rattle.words.proofs.Pieces.{put_more}
 use Rattle.memory.proofs.put_cells.Given as goal
 
 abbrev pub invariant-loop-k : goal.invariant-loop-k

@@ -1,5 +1,4 @@
 -- `start` is four writes: zeros in front, the cells, record 0's status and the word of free ends. Assumes nothing.
-use Rattle.std.proofs.Common.{rules}
 use Rattle.memory.proofs.StartLaws.{start_written}
 use Rattle.memory.proofs.start.Goals as goal
 

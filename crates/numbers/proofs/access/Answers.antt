@@ -1,5 +1,5 @@
 -- access: 6, 7, or the environment's value pushed. Assumes nothing.
-use Rattle.std.proofs.Common.{sym, ap, ◌∙◌, subst, arith, length, get_or, ℤ, pos, rules, le-leb, w32, SFits, to_z-of_z}
+use Rattle.std.proofs.Common.{sym, ap, ◌∙◌, subst, arith, length, get_or, ℤ, pos, le-leb, w32, SFits, to_z-of_z}
 use borrow.Author.Tests.{lt-leb}
 use Rattle.rules.specs.State.{RecordState}
 use Rattle.rules.specs.Layout.{view}

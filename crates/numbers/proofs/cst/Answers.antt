@@ -1,5 +1,5 @@
 -- cst: 6, or v pushed. Assumes nothing.
-use Rattle.std.proofs.Common.{ap, ◌∙◌, ℤ, rules, to_z-of_z}
+use Rattle.std.proofs.Common.{ap, ◌∙◌, ℤ, to_z-of_z}
 use Rattle.rules.specs.Layout.{view}
 use Rattle.keeping.proofs.Memories.{memory_length}
 use Rattle.registers.specs.Registers.{registers_of, pushed}

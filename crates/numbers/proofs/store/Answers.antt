@@ -1,5 +1,5 @@
 -- store: 5, 6, or the top in front of the environment. Assumes nothing.
-use Rattle.std.proofs.Common.{arith, length, rules, le-leb}
+use Rattle.std.proofs.Common.{arith, length, le-leb}
 use borrow.Author.Tests.{lt-leb}
 use Rattle.rules.specs.Limits.{environment_depth}
 use Rattle.rules.specs.Layout.{view}

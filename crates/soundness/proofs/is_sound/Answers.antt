@@ -1,6 +1,5 @@
 -- `is_sound` tests S1 to S5 in turn: the first that fails decides, and where four pass the last does. Assumes nothing.
-use Rattle.std.proofs.Common.{◌≡◌, sym, ◌∙◌, true, [], ◌∷◌, rules}
-use borrow.Author.Tests.{not-true, not-false}
+use Rattle.std.proofs.Common.{◌≡◌, sym, ◌∙◌, true, [], ◌∷◌}
 use Rattle.rules.specs.Limits.{record_count, end_count}
 use Rattle.rules.specs.SoundTest.{every, all_true, paired_test, places_test, waits_test, stands_test}
 use Rattle.rules.specs.Layout.{view}

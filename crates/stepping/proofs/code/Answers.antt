@@ -1,5 +1,4 @@
 -- The code's length in a sound memory is within its limit. Assumes nothing.
-use Rattle.std.proofs.Common.{rules}
 use Rattle.keeping.proofs.Memories.{memory_length}
 use Rattle.stepping.proofs.Steps.{code_fits}
 use Rattle.stepping.proofs.code.Goals as goal

@@ -1,6 +1,5 @@
 -- A sound memory is shown, another is refused. Assumes nothing.
-use Rattle.std.proofs.Common.{sym, ap, ◌∙◌, arith, length, rules}
-use borrow.Author.Tests.{not-true, not-false}
+use Rattle.std.proofs.Common.{sym, ap, ◌∙◌, arith, length}
 use Rattle.rules.specs.Text.{text}
 use Rattle.keeping.proofs.Memories.{memory_of_test}
 use Rattle.text.proofs.Texts.{written_as}

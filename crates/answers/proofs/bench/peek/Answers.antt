@@ -1,5 +1,5 @@
 -- The part of the memory, or that there is none. Assumes nothing.
-use Rattle.std.proofs.Common.{ap, arith, length, rules}
+use Rattle.std.proofs.Common.{ap, arith, length}
 use Rattle.rules.specs.Text.{text}
 use Rattle.text.proofs.Texts.{written_as}
 use Rattle.answers.proofs.Cases.{peek_outside, peek_inside}

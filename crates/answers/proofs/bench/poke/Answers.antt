@@ -1,5 +1,5 @@
 -- The bytes written where they lie within the memory. Assumes nothing.
-use Rattle.std.proofs.Common.{ap, ◌∙◌, arith, length, rules}
+use Rattle.std.proofs.Common.{ap, ◌∙◌, arith, length}
 use Rattle.rules.specs.Text.{text}
 use Rattle.text.proofs.Texts.{written_as}
 use Rattle.answers.proofs.Cases.{poke_outside, poke_inside}

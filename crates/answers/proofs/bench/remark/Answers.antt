@@ -1,5 +1,5 @@
 -- The line, and its end. Assumes nothing.
-use Rattle.std.proofs.Common.{arith, length-append, rules}
+use Rattle.std.proofs.Common.{arith, length-append}
 use Rattle.rules.specs.Text.{text}
 use Rattle.text.proofs.Texts.{written_more}
 use Rattle.answers.proofs.bench.remark.Goals as goal

@@ -1,5 +1,5 @@
 -- The first word, and no more of it than a line has. Assumes nothing.
-use Rattle.std.proofs.Common.{◌≡◌, sym, ap, ◌∙◌, ℕ, arith, length, take, length-take-le, rules}
+use Rattle.std.proofs.Common.{◌≡◌, ap, ◌∙◌, ℕ, arith, length, take}
 use Rattle.rules.specs.Text.{text}
 use Rattle.text.proofs.Texts.{written_more, written_as}
 use Rattle.commands.specs.Asked.{line_limit, first_word}

@@ -1,5 +1,5 @@
 -- Hex is twice as long as the bytes. Assumes nothing.
-use Rattle.std.proofs.Common.{arith, rules}
+use Rattle.std.proofs.Common.{arith}
 use Rattle.rules.specs.Text.{text}
 use Rattle.text.proofs.Hex.{length_text}
 use Rattle.text.proofs.Texts.{written_more}

@@ -1,5 +1,5 @@
 -- A word, a number and the line's end. Assumes nothing.
-use Rattle.std.proofs.Common.{arith, rules}
+use Rattle.std.proofs.Common.{arith}
 use Rattle.rules.specs.Text.{text}
 use Rattle.text.proofs.Texts.{written_more, written_as}
 use Rattle.answers.proofs.Texts.{number_line_lem, number_length}

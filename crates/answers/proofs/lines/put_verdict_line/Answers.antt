@@ -1,5 +1,5 @@
 -- A space, a word and the line's end. Assumes nothing.
-use Rattle.std.proofs.Common.{arith, rules}
+use Rattle.std.proofs.Common.{arith}
 use Rattle.rules.specs.Text.{text}
 use Rattle.printed.specs.Meaning.{verdict_in}
 use Rattle.text.proofs.Texts.{written_more, written_as}

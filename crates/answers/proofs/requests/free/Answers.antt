@@ -1,5 +1,5 @@
 -- Both numbers, or the one of the refusal. Assumes nothing.
-use Rattle.std.proofs.Common.{sym, ap, ◌∙◌, arith, length, rules}
+use Rattle.std.proofs.Common.{sym, ap, ◌∙◌, arith, length}
 use Rattle.rules.specs.Text.{text}
 use Rattle.text.proofs.Texts.{written_as}
 use Rattle.machine.specs.Answers.{free_answer}

@@ -1,5 +1,5 @@
 -- The reply's number, and the memory that `machine` leaves. Assumes nothing.
-use Rattle.std.proofs.Common.{◌≡◌, ap, ◌∙◌, ℕ, arith, length, rules}
+use Rattle.std.proofs.Common.{◌≡◌, ap, ◌∙◌, ℕ, arith, length}
 use Rattle.rules.specs.Calls.{load, load_answer}
 use Rattle.rules.specs.Numbers.{reply_number}
 use Rattle.rules.specs.Text.{text}

@@ -1,5 +1,5 @@
 -- A word and two numbers. Assumes nothing.
-use Rattle.std.proofs.Common.{arith, rules}
+use Rattle.std.proofs.Common.{arith}
 use Rattle.rules.specs.Text.{text}
 use Rattle.text.proofs.Texts.{written_more, written_as}
 use Rattle.answers.proofs.Texts.{counted_text_lem, counted_length}

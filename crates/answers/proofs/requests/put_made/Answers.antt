@@ -1,5 +1,5 @@
 -- The parts of a line, one behind the other. Assumes nothing.
-use Rattle.std.proofs.Common.{arith, rules}
+use Rattle.std.proofs.Common.{arith}
 use Rattle.rules.specs.Text.{text}
 use Rattle.printed.specs.Meaning.{verdict_in}
 use Rattle.text.proofs.Texts.{written_more, written_as}

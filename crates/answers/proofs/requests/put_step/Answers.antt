@@ -1,5 +1,5 @@
 -- The name, the number, and the number returned. Assumes nothing.
-use Rattle.std.proofs.Common.{ap, ℕ, arith, rules}
+use Rattle.std.proofs.Common.{ap, ℕ, arith}
 use Rattle.rules.specs.Numbers.{reply_number}
 use Rattle.rules.specs.Text.{text}
 use Rattle.text.proofs.Texts.{written_more, written_as}

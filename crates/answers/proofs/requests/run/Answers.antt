@@ -1,5 +1,5 @@
 -- A run that was made, or the number. Assumes nothing.
-use Rattle.std.proofs.Common.{ap, arith, length, rules}
+use Rattle.std.proofs.Common.{ap, arith, length}
 use Rattle.rules.specs.Calls.{run_answer}
 use Rattle.rules.specs.Text.{text}
 use Rattle.text.proofs.Texts.{written_as}

@@ -1,5 +1,5 @@
 -- The number, and the image where there is one. Assumes nothing.
-use Rattle.std.proofs.Common.{◌≡◌, refl, sym, ap, ◌∙◌, List, ℕ, arith, length, take, length-append, length-take-le, rules}
+use Rattle.std.proofs.Common.{◌≡◌, refl, sym, ap, ◌∙◌, List, ℕ, arith, length, take, length-append, length-take-le}
 use Rattle.rules.specs.Image.{image_of}
 use Rattle.rules.specs.Calls.{write_answer}
 use Rattle.rules.specs.Text.{text}

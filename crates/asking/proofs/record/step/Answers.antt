@@ -1,5 +1,4 @@
 -- A position is a record or an end. Assumes nothing.
-use Rattle.std.proofs.Common.{rules}
 use Rattle.rules.specs.Layout.{view}
 use Rattle.stepping.proofs.Steps.{promised_as}
 use Rattle.asking.proofs.Answers.{of_a_record, of_an_end}

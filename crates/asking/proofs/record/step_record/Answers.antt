@@ -1,8 +1,8 @@
 -- A record is asked: 2, 3, or what the record that runs is told. Assumes nothing.
-use Rattle.std.proofs.Common.{sym, ◌∙◌, rules}
+use Rattle.std.proofs.Common.{sym, ◌∙◌}
 use Rattle.rules.specs.Layout.{view}
 use Rattle.stepping.proofs.Steps.{refused_step, memory_sized}
-use Rattle.asking.proofs.Answers.{over, free, waits, runs}
+use Rattle.asking.proofs.Answers.{over, free, waits}
 use Rattle.asking.proofs.record.step_record.Goals as goal
 
 pub returns-then-record : goal.returns-then-record

@@ -1,12 +1,12 @@
 -- The place, the code, the decoder, and the instruction. Assumes nothing.
-use Rattle.std.proofs.Common.{◌≡◌, sym, ap, ◌∙◌, rules}
+use Rattle.std.proofs.Common.{◌≡◌, sym, ap, ◌∙◌}
 use mathlib.Core.Option.{some}
 use Rattle.rules.specs.State.{RecordState}
 use Rattle.rules.specs.Instruction.{decode}
 use Rattle.rules.specs.Layout.{view}
 use Rattle.code.specs.Meaning.{instruction_of}
 use Rattle.registers.specs.Registers.{registers_in}
-use Rattle.stepping.proofs.Steps.{refused_step, promised_as, memory_sized, in_range}
+use Rattle.stepping.proofs.Steps.{refused_step, promised_as, memory_sized}
 use Rattle.stepping.proofs.Decoding.{decoded_good, decoded_bad, next_small}
 use Rattle.asking.proofs.Listing.{listed_in}
 use Rattle.asking.proofs.Answers.{no_instruction, an_instruction}

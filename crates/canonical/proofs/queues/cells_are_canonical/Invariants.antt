@@ -1,8 +1,7 @@
 -- `cells_are_canonical` goes on behind a datum, and ends at anything else. The invariant: the cells from i on decide. Assumes nothing.
-use Rattle.std.proofs.Common.{◌≡◌, refl, sym, ◌∙◌, ◌-◌, ◌≤◌, arith, take, rules}
-use borrow.Author.Tests.{not-true, not-false}
+use Rattle.std.proofs.Common.{◌≡◌, ◌-◌, ◌≤◌, take}
 use Rattle.canonical.specs.Canonical.{cells_in, canonical_cells}
-use Rattle.canonical.proofs.Cells.{cells_from, turn_go, turn_end, turn_stop, cells_all}
+use Rattle.canonical.proofs.Cells.{cells_from}
 use Rattle.canonical.proofs.queues.cells_are_canonical.Given as goal
 
 abbrev pub invariant-loop-i : goal.invariant-loop-i

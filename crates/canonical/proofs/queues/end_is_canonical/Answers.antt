@@ -1,6 +1,5 @@
 -- `end_is_canonical` goes by whether the end is free. Assumes nothing.
-use Rattle.std.proofs.Common.{sym, ◌∙◌, [], ◌∷◌, eqb, eq-eqb, ne_eqb, rules}
-use borrow.Author.Tests.{not-true, not-false}
+use Rattle.std.proofs.Common.{sym, ◌∙◌, [], ◌∷◌, eqb, eq-eqb, ne_eqb}
 use Rattle.canonical.specs.Canonical.{all_zero, canonical_end}
 use Rattle.canonical.proofs.Tests.{false_at, last_decides}
 use Rattle.canonical.proofs.queues.end_is_canonical.Goals as goal

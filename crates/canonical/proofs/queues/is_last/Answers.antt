@@ -1,5 +1,5 @@
 -- `is_last` goes by the cell's kind. Assumes nothing.
-use Rattle.std.proofs.Common.{◌∙◌, rules}
+use Rattle.std.proofs.Common.{◌∙◌}
 use Rattle.canonical.proofs.Cells.{last_kind, no_last}
 use Rattle.canonical.proofs.queues.is_last.Goals as goal
 

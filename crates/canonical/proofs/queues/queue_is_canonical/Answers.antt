@@ -1,6 +1,6 @@
 -- `queue_is_canonical` tests in the order of the definition. Assumes nothing.
-use Rattle.std.proofs.Common.{◌≡◌, sym, ap, ◌∙◌, List, [], ◌∷◌, ℕ, ◌*◌, take, leb, le-leb, rules}
-use borrow.Author.Tests.{lt-leb, not-true, not-false}
+use Rattle.std.proofs.Common.{◌≡◌, sym, ap, ◌∙◌, List, [], ◌∷◌, ℕ, ◌*◌, take, leb, le-leb}
+use borrow.Author.Tests.{lt-leb}
 use Rattle.rules.specs.Limits.{queue_depth}
 use Rattle.rules.specs.Layout.{cell_size, queue_size}
 use Rattle.canonical.specs.Canonical.{part, all_zero, cells_in, canonical_cells, canonical_queue}

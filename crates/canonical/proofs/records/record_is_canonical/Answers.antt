@@ -1,5 +1,5 @@
 -- `record_is_canonical` goes by the status. Assumes nothing.
-use Rattle.std.proofs.Common.{sym, ◌∙◌, get_or, eq-eqb, ne_eqb, le-leb, rules}
+use Rattle.std.proofs.Common.{sym, ◌∙◌, get_or, eq-eqb, ne_eqb, le-leb}
 use borrow.Author.Tests.{lt-leb}
 use Rattle.canonical.specs.Canonical.{canonical_record}
 use Rattle.canonical.proofs.records.record_is_canonical.Goals as goal

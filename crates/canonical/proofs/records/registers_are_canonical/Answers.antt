@@ -1,6 +1,6 @@
 -- `registers_are_canonical` tests in the order of the definition. Assumes nothing.
-use Rattle.std.proofs.Common.{◌≡◌, sym, ap, ◌∙◌, List, [], ◌∷◌, ℕ, ◌+◌, ◌*◌, get_or, leb, le-leb, rules}
-use borrow.Author.Tests.{lt-leb, not-true, not-false}
+use Rattle.std.proofs.Common.{◌≡◌, sym, ap, ◌∙◌, List, [], ◌∷◌, ℕ, ◌+◌, ◌*◌, get_or, leb, le-leb}
+use borrow.Author.Tests.{lt-leb}
 use Rattle.rules.specs.Limits.{stack_depth, environment_depth}
 use Rattle.rules.specs.SoundTest.{all}
 use Rattle.rules.specs.Layout.{value_size, record_size}

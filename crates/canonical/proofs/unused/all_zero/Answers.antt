@@ -1,6 +1,5 @@
 -- `all_zero` joins all bytes by or. The invariant: what is joined so far is zero exactly if the first i bytes are. Assumes nothing.
-use Rattle.std.proofs.Common.{◌≡◌, ap, ◌∙◌, ◌-◌, ◌≤◌, arith, length, take, take_all, eqb, rules}
-use Rattle.canonical.specs.Canonical.{all_zero}
+use Rattle.std.proofs.Common.{arith}
 use Rattle.canonical.proofs.Padding.{all_zero_none, all_zero_more}
 use Rattle.canonical.proofs.unused.all_zero.Goals as goal
 

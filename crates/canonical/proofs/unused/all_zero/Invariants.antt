@@ -1,7 +1,6 @@
 -- `all_zero` joins all bytes by or. The invariant: what is joined so far is zero exactly if the first i bytes are. Assumes nothing.
-use Rattle.std.proofs.Common.{◌≡◌, ap, ◌∙◌, ◌-◌, ◌≤◌, arith, length, take, take_all, eqb, rules}
+use Rattle.std.proofs.Common.{◌≡◌, ◌-◌, ◌≤◌, length, take, eqb}
 use Rattle.canonical.specs.Canonical.{all_zero}
-use Rattle.canonical.proofs.Padding.{all_zero_none, all_zero_more}
 use Rattle.canonical.proofs.unused.all_zero.Given as goal
 
 abbrev pub invariant-loop-i : goal.invariant-loop-i

@@ -1,5 +1,5 @@
 -- close: 8 of its slot. Assumes nothing.
-use Rattle.std.proofs.Common.{◌≡◌, refl, ℕ, rules}
+use Rattle.std.proofs.Common.{◌≡◌, refl, ℕ}
 use Rattle.rules.specs.State.{Registers as Process}
 use Rattle.rules.specs.Causes.{own_causes}
 use Rattle.rules.specs.Instruction.{close}

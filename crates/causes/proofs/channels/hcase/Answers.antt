@@ -1,5 +1,5 @@
 -- hcase: 8 of its slot. Assumes nothing.
-use Rattle.std.proofs.Common.{◌≡◌, refl, ℕ, rules, List}
+use Rattle.std.proofs.Common.{◌≡◌, refl, ℕ, List}
 use Rattle.rules.specs.State.{Registers as Process}
 use Rattle.rules.specs.Causes.{own_causes}
 use Rattle.rules.specs.Instruction.{hcase}

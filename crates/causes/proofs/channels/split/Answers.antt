@@ -1,5 +1,5 @@
 -- split: 8 of its slots, 11. Assumes nothing.
-use Rattle.std.proofs.Common.{◌≡◌, refl, Bool, List, [], ◌∷◌, ℕ, rules}
+use Rattle.std.proofs.Common.{◌≡◌, refl, Bool, List, [], ◌∷◌, ℕ}
 use Rattle.rules.specs.State.{Registers as Process}
 use Rattle.rules.specs.Slots.{over}
 use Rattle.rules.specs.Causes.{empty, own_causes}

@@ -1,12 +1,11 @@
 -- plug: 8 of its slot, 10 of the slots that its branches get, 11. Assumes nothing.
-use Rattle.std.proofs.Common.{◌≡◌, refl, ℕ, rules}
+use Rattle.std.proofs.Common.{◌≡◌, refl, ℕ}
 use Rattle.rules.specs.State.{Registers as Process}
 use Rattle.rules.specs.Causes.{own_causes}
 use Rattle.rules.specs.Instruction.{Instruction, plug}
 use Rattle.rules.specs.Sound.{RegistersWithin}
 use Rattle.registers.specs.Registers.{registers_of}
 use Rattle.causes.proofs.OwnRows.{OwnPassed, first, next, stop, through}
-use Rattle.causes.proofs.RowTests.{not_over}
 use Rattle.causes.proofs.processes.plug.Goals as goal
 use Rattle.causes.proofs.processes.plug.Goals.{Else-in_set, Else-in_set-2, Else-not_together, Else-over, Else-overlap, Else-stack_not_empty, Start}
 

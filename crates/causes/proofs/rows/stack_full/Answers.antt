@@ -1,5 +1,5 @@
 -- `stack_full` looks at the count of the stack. Assumes nothing.
-use Rattle.std.proofs.Common.{ap, ℕ, leb, rules}
+use Rattle.std.proofs.Common.{ap, ℕ, leb}
 use Rattle.rules.specs.Limits.{stack_depth}
 use Rattle.registers.proofs.Fields.{by_fields}
 use Rattle.causes.proofs.rows.stack_full.Goals as goal

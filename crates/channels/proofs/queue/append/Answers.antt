@@ -1,5 +1,5 @@
 -- `append`: 13 where the queue of the slot's end has no room, else the item stands on it. Assumes nothing.
-use Rattle.std.proofs.Common.{◌≡◌, ℕ, ◌<◌, arith, rules}
+use Rattle.std.proofs.Common.{◌≡◌, ℕ, ◌<◌, arith}
 use Rattle.rules.specs.Limits.{end_count}
 use Rattle.rules.specs.State.{Registers as Process, end_in}
 use Rattle.keeping.proofs.Memories.{memory_length}

@@ -1,5 +1,5 @@
 -- close: 8, 13, or a close on the queue and the slot emptied. Assumes nothing.
-use Rattle.std.proofs.Common.{refl, ◌∙◌, rules}
+use Rattle.std.proofs.Common.{refl, ◌∙◌}
 use Rattle.rules.specs.Instruction.{close}
 use Rattle.rules.specs.Causes.{shared_causes}
 use Rattle.rules.specs.RecordStep.{after}

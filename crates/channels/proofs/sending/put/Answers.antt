@@ -1,5 +1,5 @@
 -- put: 5, 8, 13, or the top on the queue. Assumes nothing.
-use Rattle.std.proofs.Common.{◌≡◌, sym, ap, ◌∙◌, subst, false, ℕ, arith, length, rules, ltb-false, w32, SFits, to_z-of_z}
+use Rattle.std.proofs.Common.{◌≡◌, sym, ap, ◌∙◌, subst, false, ℕ, arith, length, ltb-false, w32, SFits, to_z-of_z}
 use Rattle.rules.specs.State.{Registers as Process, Value, datum, value}
 use Rattle.rules.specs.Instruction.{put}
 use Rattle.rules.specs.Causes.{fewer, own_causes, shared_causes}

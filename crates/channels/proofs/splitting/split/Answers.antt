@@ -1,5 +1,4 @@
 -- split: 8, 11, 13, 15, or two new pairs and the split on the queue. Assumes nothing.
-use Rattle.std.proofs.Common.{rules}
 use Rattle.rules.specs.Instruction.{split}
 use Rattle.rules.specs.declared.Reply.TheVariants.{Done}
 use Rattle.keeping.proofs.Memories.{memory_length}

@@ -1,5 +1,5 @@
 -- split_at: 13 by the count, 15 by the word of free ends, or the four lowest free ends in use. Assumes nothing.
-use Rattle.std.proofs.Common.{◌≡◌, ◌∙◌, ◌<◌, arith, rules}
+use Rattle.std.proofs.Common.{◌≡◌, ◌∙◌, ◌<◌, arith}
 use Rattle.rules.specs.Limits.{end_count}
 use Rattle.rules.specs.State.{Registers as Process, end_in}
 use Rattle.rules.specs.Layout.{view, free_word}

@@ -1,5 +1,4 @@
 -- fork: 8, 10, 11, 13, or a wait. Assumes nothing.
-use Rattle.std.proofs.Common.{rules}
 use Rattle.rules.specs.Instruction.{Instruction, fork}
 use Rattle.rules.specs.Causes.{shared_causes}
 use Rattle.rules.specs.RecordStep.{after}

@@ -1,5 +1,4 @@
 -- get: 6, 8, 13, or a wait. Assumes nothing.
-use Rattle.std.proofs.Common.{rules}
 use Rattle.rules.specs.Instruction.{get}
 use Rattle.rules.specs.Causes.{shared_causes}
 use Rattle.rules.specs.RecordStep.{after}

@@ -1,5 +1,5 @@
 -- hcase: 8, 13, or a wait. Assumes nothing.
-use Rattle.std.proofs.Common.{List, [], ℕ, rules}
+use Rattle.std.proofs.Common.{List, [], ℕ}
 use Rattle.rules.specs.Instruction.{hcase}
 use Rattle.rules.specs.Causes.{shared_causes}
 use Rattle.rules.specs.RecordStep.{after}

@@ -1,5 +1,5 @@
 -- wait_at: 13, or a wait on the queue and the record waiting as it stands. Assumes nothing.
-use Rattle.std.proofs.Common.{refl, ◌∙◌, rules}
+use Rattle.std.proofs.Common.{refl, ◌∙◌}
 use Rattle.keeping.proofs.Memories.{memory_length}
 use Rattle.channels.proofs.Answers.{full_step, sent}
 use Rattle.channels.proofs.waiting.wait_at.Goals as goal

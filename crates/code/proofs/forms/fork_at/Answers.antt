@@ -1,5 +1,4 @@
 -- `code::forms::fork_at` meets its contract: three slots and two branches, each where the form has it. Assumes nothing.
-use Rattle.std.proofs.Common.{rules}
 use Rattle.rules.specs.Instruction.{instruction_at}
 use Rattle.code.proofs.forms.fork_at.Goals as goal
 

@@ -1,5 +1,5 @@
 -- `code::forms::hcase_at` meets its contract: k is tested from below, from above and against the length of the code, and each answer is a
-use Rattle.std.proofs.Common.{◌≡◌, sym, ◌∙◌, ◌+◌, ◌*◌, arith, rules, eq-eqb, ne_eqb, lt-ltb, le-ltb}
+use Rattle.std.proofs.Common.{◌≡◌, sym, ◌∙◌, ◌+◌, ◌*◌, arith, eq-eqb, ne_eqb, lt-ltb, le-ltb}
 use mathlib.Core.Option.{some}
 use Rattle.rules.specs.Limits.{cases_limit}
 use Rattle.rules.specs.Instruction.{Form, form, hcase_name, places_listed, hcase, form_of, form_in, byte_at, places_at, instruction_at}

@@ -1,5 +1,5 @@
 -- Two numbers behind their words, and a word. Assumes nothing.
-use Rattle.std.proofs.Common.{◌∷◌, ◌++◌, ◌+◌, ◌≤◌, length, rules}
+use Rattle.std.proofs.Common.{◌∷◌, ◌++◌, ◌+◌, ◌≤◌, length}
 use Rattle.rules.specs.Text.{decimal}
 use Rattle.text.proofs.Texts.{written_more, written_as, room_as, room_first, room_rest}
 use Rattle.dump.proofs.Parts.{partner_part, queue_word, head_parts}

@@ -1,14 +1,14 @@
 -- A comma and the item at the index. Assumes nothing.
-use Rattle.std.proofs.Common.{◌≡◌, sym, ap, ◌∙◌, [], ◌<◌, arith, get_or, rules}
+use Rattle.std.proofs.Common.{◌≡◌, sym, ap, ◌∙◌, [], ◌<◌, arith, get_or}
 use Rattle.rules.specs.Limits.{queue_depth}
 use Rattle.rules.specs.State.{end_at}
 use Rattle.rules.specs.Layout.{view}
 use Rattle.ends.specs.Items.{item_of, head_in}
 use Rattle.ends.proofs.Fitting.{sound_fits}
 use Rattle.stepping.proofs.Steps.{memory_sized}
-use Rattle.text.proofs.Texts.{written_more, written_as, room_as, room_first, room_rest}
+use Rattle.text.proofs.Texts.{written_more, written_as, room_as, room_rest}
 use Rattle.dump.specs.Shown.{item_text}
-use Rattle.dump.specs.Pieces.{comma_behind, item_texts}
+use Rattle.dump.specs.Pieces.{item_texts}
 use Rattle.dump.proofs.Queued.{index_within, item_shown, item_there}
 use Rattle.dump.proofs.end_line.put_next.Goals as goal
 use Rattle.dump.proofs.end_line.put_next.Goals.{In-Item, Start}

@@ -1,9 +1,8 @@
 -- One item after the other. The invariant: the first k items stand. Assumes nothing.
-use Rattle.std.proofs.Common.{◌≡◌, refl, [], ◌-◌, ◌≤◌, ◌<◌, arith, length, take, rules}
+use Rattle.std.proofs.Common.{◌≡◌, refl, [], ◌<◌, arith, length}
 use Rattle.rules.specs.State.{end_at}
 use Rattle.rules.specs.Layout.{view}
 use Rattle.stepping.proofs.Steps.{memory_sized}
-use Rattle.text.specs.Written.{Written}
 use Rattle.dump.specs.Pieces.{item_texts}
 use Rattle.dump.proofs.Parts.{written_none}
 use Rattle.dump.proofs.OneByOne.{so_far, index_room, index_more, index_dash_room, index_done}

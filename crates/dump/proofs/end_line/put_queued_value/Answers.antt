@@ -1,5 +1,5 @@
 -- A letter and a signed number. Assumes nothing.
-use Rattle.std.proofs.Common.{ap, [], ◌∷◌, w32, to_z-of_z, rules}
+use Rattle.std.proofs.Common.{ap, [], ◌∷◌, w32, to_z-of_z}
 use Rattle.rules.specs.Text.{text, signed_decimal}
 use Rattle.text.proofs.Texts.{written_more, written_as, room_first, room_rest}
 use Rattle.dump.proofs.end_line.put_queued_value.Goals as goal

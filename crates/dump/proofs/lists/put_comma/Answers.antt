@@ -1,5 +1,4 @@
 -- A comma, or nothing. Assumes nothing.
-use Rattle.std.proofs.Common.{rules}
 use Rattle.text.proofs.Texts.{written_as, room_as}
 use Rattle.dump.proofs.Parts.{written_none, no_comma, comma_text}
 use Rattle.dump.proofs.lists.put_comma.Goals as goal

@@ -1,5 +1,4 @@
 -- `-`, or nothing. Assumes nothing.
-use Rattle.std.proofs.Common.{rules}
 use Rattle.text.proofs.Texts.{written_as, room_as}
 use Rattle.dump.proofs.Parts.{written_none, dash_text, no_dash}
 use Rattle.dump.proofs.lists.put_dash.Goals as goal

@@ -1,5 +1,5 @@
 -- A comma, the slot, and the end behind a colon. Assumes nothing.
-use Rattle.std.proofs.Common.{◌∷◌, ◌++◌, ◌+◌, ◌≤◌, length, rules}
+use Rattle.std.proofs.Common.{◌∷◌, ◌++◌, ◌+◌, ◌≤◌, length}
 use Rattle.rules.specs.Text.{decimal}
 use Rattle.text.proofs.Texts.{written_more, written_as, room_as, room_first, room_rest}
 use Rattle.dump.specs.Pieces.{comma_behind}

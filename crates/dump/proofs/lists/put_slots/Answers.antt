@@ -1,5 +1,5 @@
 -- One slot after the other. The invariant: those of the first c slots that hold an end stand. Assumes nothing.
-use Rattle.std.proofs.Common.{◌≡◌, ⊎_elim, ◌+◌, ◌-◌, ◌≤◌, arith, length, rules}
+use Rattle.std.proofs.Common.{◌≡◌, ◌+◌, ◌≤◌, arith, length, rules}
 use Rattle.rules.specs.Limits.{slot_count}
 use Rattle.dump.proofs.HeldSlots.{SlotsSoFar, no_slots, slots_as, slots_length, slot_empty, slot_room_lem, slot_held}
 use Rattle.dump.proofs.HeldSlots.{slots_dash_room, slots_done}
@@ -28,10 +28,10 @@ loop-c-preserved c =
     let below = c.loop-c-test.true in
     let more : SlotsSoFar a.out.now a.at a.slots c.if-slots-c-ne0.out c.if-slots-c-ne0.next c.if-slots-c-ne0.shown (l.c + 1) =
     elim c.if-slots-c-ne0.branch [
-      then-slots-c-ne0 w ↦ slots_as w.out-is w.next-is w.shown-is
-        (slot_held a.slots l.c l.invariant.2 (eight (goal.at.loop-c-preserved c).Start) below w.if-slots-c-ne0.true w.put_slot-next.ensures)
-    | else-slots-c-ne0 w ↦ slots_as w.out-is w.next-is w.shown-is
-        (slot_empty a.slots l.c l.invariant.2 (eight (goal.at.loop-c-preserved c).Start) below w.if-slots-c-ne0.false)
+      | then-slots-c-ne0 w ↦ slots_as w.out-is w.next-is w.shown-is
+          (slot_held a.slots l.c l.invariant.2 (eight (goal.at.loop-c-preserved c).Start) below w.if-slots-c-ne0.true w.put_slot-next.ensures)
+      | else-slots-c-ne0 w ↦ slots_as w.out-is w.next-is w.shown-is
+          (slot_empty a.slots l.c l.invariant.2 (eight (goal.at.loop-c-preserved c).Start) below w.if-slots-c-ne0.false)
     ] in
     (omega (arith, below), slots_length more, more)
 

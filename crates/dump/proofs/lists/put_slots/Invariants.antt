@@ -1,8 +1,7 @@
 -- One slot after the other. The invariant: those of the first c slots that hold an end stand. Assumes nothing.
-use Rattle.std.proofs.Common.{◌≡◌, ⊎_elim, ◌+◌, ◌-◌, ◌≤◌, arith, length, rules}
+use Rattle.std.proofs.Common.{◌≡◌, ◌-◌, ◌≤◌, length}
 use Rattle.rules.specs.Limits.{slot_count}
-use Rattle.dump.proofs.HeldSlots.{SlotsSoFar, no_slots, slots_as, slots_length, slot_empty, slot_room_lem, slot_held}
-use Rattle.dump.proofs.HeldSlots.{slots_dash_room, slots_done}
+use Rattle.dump.proofs.HeldSlots.{SlotsSoFar}
 use Rattle.dump.proofs.lists.put_slots.Given as goal
 
 abbrev pub invariant-loop-c : goal.invariant-loop-c

@@ -1,8 +1,7 @@
 -- A comma and a value. Assumes nothing.
-use Rattle.std.proofs.Common.{ap, w32, to_z-of_z, rules}
+use Rattle.std.proofs.Common.{ap, to_z-of_z}
 use Rattle.rules.specs.Text.{signed_decimal}
-use Rattle.text.proofs.Texts.{written_more, written_as, room_first, room_rest}
-use Rattle.dump.specs.Pieces.{comma_behind}
+use Rattle.text.proofs.Texts.{written_more, written_as}
 use Rattle.dump.proofs.lists.put_value.Goals as goal
 
 pub returns : goal.returns

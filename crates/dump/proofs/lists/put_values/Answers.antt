@@ -1,10 +1,9 @@
 -- One value after the other. The invariant: the first k values stand. Assumes nothing.
-use Rattle.std.proofs.Common.{◌≡◌, refl, sym, ap, ◌∙◌, List, ◌++◌, ℕ, ◌-◌, ◌≤◌, ◌<◌, arith, pos, length, get_or, take, w32, SFits, to_z-of_z, rules}
+use Rattle.std.proofs.Common.{◌≡◌, refl, sym, ap, ◌∙◌, List, ◌++◌, ℕ, ◌<◌, arith, pos, length, get_or, w32, SFits, to_z-of_z, rules}
 use Rattle.rules.specs.Limits.{stack_depth}
 use Rattle.rules.specs.State.{Value}
 use Rattle.rules.specs.Text.{signed_decimal}
 use Rattle.registers.proofs.ValueLaws.{moved, values_fit}
-use Rattle.text.specs.Written.{Written}
 use Rattle.text.proofs.Texts.{written_as, room_as}
 use Rattle.dump.specs.Shown.{values_text}
 use Rattle.dump.specs.Pieces.{comma_behind}

@@ -1,5 +1,5 @@
 -- A number behind its letter, a word, and the registers. Assumes nothing.
-use Rattle.std.proofs.Common.{◌∷◌, ◌++◌, ◌+◌, ◌≤◌, length, rules}
+use Rattle.std.proofs.Common.{◌∷◌, ◌++◌, ◌+◌, ◌≤◌, length}
 use Rattle.rules.specs.Text.{text, decimal}
 use Rattle.text.proofs.Texts.{written_more, room_first, room_rest}
 use Rattle.dump.specs.Shown.{registers_text}

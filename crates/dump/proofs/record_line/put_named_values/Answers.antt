@@ -1,7 +1,5 @@
 -- A word and values. Assumes nothing.
-use Rattle.std.proofs.Common.{take, rules}
-use Rattle.text.proofs.Texts.{written_more, room_first, room_rest}
-use Rattle.dump.specs.Shown.{values_text}
+use Rattle.text.proofs.Texts.{written_more}
 use Rattle.dump.proofs.record_line.put_named_values.Goals as goal
 
 pub returns : goal.returns

@@ -1,5 +1,5 @@
 -- One case for each status. Assumes nothing.
-use Rattle.std.proofs.Common.{◌≡◌, sym, ◌∙◌, rules}
+use Rattle.std.proofs.Common.{◌≡◌, sym, ◌∙◌}
 use Rattle.rules.specs.State.{record_at}
 use Rattle.rules.specs.Layout.{view}
 use Rattle.registers.specs.Registers.{status_of}

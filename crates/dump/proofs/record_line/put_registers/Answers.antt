@@ -1,5 +1,5 @@
 -- One part after the other. Assumes nothing.
-use Rattle.std.proofs.Common.{[], ◌∷◌, ◌++◌, ◌+◌, ◌≤◌, length, rules}
+use Rattle.std.proofs.Common.{[], ◌∷◌, ◌++◌, ◌+◌, ◌≤◌, length}
 use Rattle.rules.specs.Text.{decimal}
 use Rattle.text.proofs.Texts.{written_more, written_as, room_as, room_first, room_rest}
 use Rattle.dump.specs.Shown.{values_text, slots_text}

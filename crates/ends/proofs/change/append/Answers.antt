@@ -1,5 +1,5 @@
 -- `append` writes the item's cell behind those in use, and the count. Assumes nothing.
-use Rattle.std.proofs.Common.{◌≡◌, ◌∙◌, ◌<◌, rules}
+use Rattle.std.proofs.Common.{◌≡◌, ◌∙◌, ◌<◌}
 use Rattle.rules.specs.Limits.{queue_depth}
 use Rattle.rules.specs.State.{end_at, queue_length}
 use Rattle.ends.specs.Items.{item_of}

@@ -1,5 +1,4 @@
 -- `free` writes the word of free ends with the end, and zeros where its partner, its count and its first cell stand. Assumes nothing.
-use Rattle.std.proofs.Common.{rules}
 use Rattle.ends.proofs.Changes.{free_written}
 use Rattle.ends.proofs.change.free.Goals as goal
 

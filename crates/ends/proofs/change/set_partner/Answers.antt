@@ -1,5 +1,4 @@
 -- `set_partner` writes one byte. Assumes nothing.
-use Rattle.std.proofs.Common.{rules}
 use Rattle.ends.proofs.Changes.{partner_written}
 use Rattle.ends.proofs.change.set_partner.Goals as goal
 

@@ -1,5 +1,5 @@
 -- `take` writes the word of free ends without the end, and its partner. Assumes nothing.
-use Rattle.std.proofs.Common.{refl, rules}
+use Rattle.std.proofs.Common.{refl}
 use Rattle.rules.specs.State.{fresh_end}
 use Rattle.ends.proofs.Changes.{fresh_written}
 use Rattle.ends.proofs.change.take.Goals as goal

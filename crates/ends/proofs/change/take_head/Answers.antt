@@ -1,9 +1,7 @@
 -- `take_head` moves the cells up by one and writes the count. Assumes nothing.
-use Rattle.std.proofs.Common.{◌≡◌, sym, ap, ◌∙◌, rules}
-use Rattle.rules.specs.State.{end_at, queue_length}
-use Rattle.rules.specs.Layout.{layout}
+use Rattle.std.proofs.Common.{◌∙◌}
 use Rattle.ends.proofs.Shown.{count_is, cells_are}
-use Rattle.ends.proofs.Changes.{take_none, take_written}
+use Rattle.ends.proofs.Changes.{take_written}
 use Rattle.ends.proofs.change.take_head.Goals as goal
 
 pub returns : goal.returns

@@ -1,7 +1,7 @@
 -- `empty_from` looks at eight counts at once, or at one. Assumes nothing.
-use Rattle.std.proofs.Common.{sym, ◌∙◌, ◌+◌, ◌≤◌, arith, rules}
+use Rattle.std.proofs.Common.{sym, ◌∙◌, ◌+◌, ◌≤◌, arith}
 use Rattle.rules.specs.Limits.{end_count}
-use Rattle.ends.proofs.Shown.{eight_empty, one_empty}
+use Rattle.ends.proofs.Shown.{eight_empty}
 use Rattle.ends.proofs.reading.empty_from.Goals as goal
 
 pub returns-then-get_eight_counts-eq0 : goal.returns-then-get_eight_counts-eq0

@@ -1,5 +1,5 @@
 -- `free_word` is the word that the bytes show. Assumes nothing.
-use Rattle.std.proofs.Common.{◌∙◌, rules}
+use Rattle.std.proofs.Common.{◌∙◌}
 use Rattle.ends.specs.Sections.{word_in}
 use Rattle.ends.proofs.Shown.{word_is}
 use Rattle.ends.proofs.reading.free_word.Goals as goal

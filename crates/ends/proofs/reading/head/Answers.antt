@@ -1,5 +1,5 @@
 -- `head` is the item in the first cell. Assumes nothing.
-use Rattle.std.proofs.Common.{ap, ◌∙◌, arith, rules}
+use Rattle.std.proofs.Common.{ap, ◌∙◌, arith}
 use Rattle.rules.specs.State.{end_at}
 use Rattle.ends.specs.Items.{cell_item}
 use Rattle.ends.proofs.Queues.{head_cell}

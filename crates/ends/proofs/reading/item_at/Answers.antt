@@ -1,5 +1,5 @@
 -- `item_at` is the item in the cell of that index. Assumes nothing.
-use Rattle.std.proofs.Common.{ap, ◌∙◌, rules}
+use Rattle.std.proofs.Common.{ap, ◌∙◌}
 use Rattle.rules.specs.State.{end_at}
 use Rattle.ends.specs.Items.{cell_item}
 use Rattle.ends.proofs.Queues.{item_cell_lem}

@@ -1,5 +1,5 @@
 -- `partner` is the partner that the bytes show. Assumes nothing.
-use Rattle.std.proofs.Common.{◌∙◌, rules}
+use Rattle.std.proofs.Common.{◌∙◌}
 use Rattle.ends.proofs.Shown.{partner_is}
 use Rattle.ends.proofs.reading.partner.Goals as goal
 

@@ -1,5 +1,5 @@
 -- `queued` is the count that the bytes show. Assumes nothing.
-use Rattle.std.proofs.Common.{◌∙◌, rules}
+use Rattle.std.proofs.Common.{◌∙◌}
 use Rattle.ends.proofs.Shown.{count_is}
 use Rattle.ends.proofs.reading.queued.Goals as goal
 

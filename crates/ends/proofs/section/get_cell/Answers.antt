@@ -1,5 +1,5 @@
 -- `get_cell` reads eight bytes where the cell stands. Assumes nothing.
-use Rattle.std.proofs.Common.{ap, ◌∙◌, rules}
+use Rattle.std.proofs.Common.{ap, ◌∙◌}
 use Rattle.rules.specs.Bytes.{number_at}
 use Rattle.rules.specs.Layout.{cell_size}
 use Rattle.ends.specs.Sections.{cell_in}

@@ -1,8 +1,7 @@
 -- `get_cells` fills an array. The invariant: the first cells are read. Assumes nothing.
-use Rattle.std.proofs.Common.{◌-◌, ◌≤◌, arith, refl, rules}
-use Rattle.rules.specs.Limits.{queue_depth}
-use Rattle.words.proofs.Tables.{Filled, filled_none, filled_more, filled_all}
-use Rattle.ends.specs.Sections.{cell_in, cells_in}
+use Rattle.std.proofs.Common.{arith}
+use Rattle.words.proofs.Tables.{filled_all}
+use Rattle.ends.specs.Sections.{cells_in}
 use Rattle.ends.proofs.section.get_cells.Goals as goal
 
 pub returns : goal.returns

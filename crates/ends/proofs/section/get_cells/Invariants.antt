@@ -1,8 +1,8 @@
 -- `get_cells` fills an array. The invariant: the first cells are read. Assumes nothing.
-use Rattle.std.proofs.Common.{◌-◌, ◌≤◌, arith, refl, rules}
+use Rattle.std.proofs.Common.{◌-◌, ◌≤◌}
 use Rattle.rules.specs.Limits.{queue_depth}
-use Rattle.words.proofs.Tables.{Filled, filled_none, filled_more, filled_all}
-use Rattle.ends.specs.Sections.{cell_in, cells_in}
+use Rattle.words.proofs.Tables.{Filled}
+use Rattle.ends.specs.Sections.{cell_in}
 use Rattle.ends.proofs.section.get_cells.Given as goal
 
 abbrev pub invariant-loop-index : goal.invariant-loop-index

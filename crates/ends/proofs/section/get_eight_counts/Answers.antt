@@ -1,5 +1,4 @@
 -- `get_eight_counts` reads eight bytes. Assumes nothing.
-use Rattle.std.proofs.Common.{rules}
 use Rattle.ends.specs.Sections.{eight_counts_in}
 use Rattle.ends.proofs.section.get_eight_counts.Goals as goal
 

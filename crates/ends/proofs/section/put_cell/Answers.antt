@@ -1,5 +1,5 @@
 -- `put_cell` writes eight bytes where the cell stands. Assumes nothing.
-use Rattle.std.proofs.Common.{ap, ◌∙◌, ℕ, rules}
+use Rattle.std.proofs.Common.{ap, ◌∙◌, ℕ}
 use Rattle.rules.specs.Bytes.{bytes_of}
 use Rattle.rules.specs.Layout.{cell_size}
 use Rattle.words.specs.Parts.{put_at}

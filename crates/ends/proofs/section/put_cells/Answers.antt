@@ -1,7 +1,6 @@
 -- `put_cells` writes the cells one after the other. The invariant: the first ones are written. Assumes nothing.
-use Rattle.std.proofs.Common.{◌≡◌, refl, ap, ◌∙◌, ◌-◌, ◌≤◌, ◌<◌, arith, length, take, take_all, rules}
+use Rattle.std.proofs.Common.{◌≡◌, refl, ◌<◌, arith, length, rules}
 use Rattle.rules.specs.Limits.{queue_depth}
-use Rattle.ends.specs.Sections.{with_cells}
 use Rattle.ends.proofs.Cells.{cells_none, cells_more}
 use Rattle.ends.proofs.section.put_cells.Goals as goal
 use Rattle.ends.proofs.section.put_cells.Goals.{Start}

@@ -1,8 +1,7 @@
 -- `put_cells` writes the cells one after the other. The invariant: the first ones are written. Assumes nothing.
-use Rattle.std.proofs.Common.{◌≡◌, refl, ap, ◌∙◌, ◌-◌, ◌≤◌, ◌<◌, arith, length, take, take_all, rules}
+use Rattle.std.proofs.Common.{◌≡◌, ◌-◌, ◌≤◌, length, take}
 use Rattle.rules.specs.Limits.{queue_depth}
 use Rattle.ends.specs.Sections.{with_cells}
-use Rattle.ends.proofs.Cells.{cells_none, cells_more}
 use Rattle.ends.proofs.section.put_cells.Given as goal
 
 abbrev pub invariant-loop-index : goal.invariant-loop-index

@@ -1,5 +1,4 @@
 -- `put_word` writes eight bytes. Assumes nothing.
-use Rattle.std.proofs.Common.{rules}
 use Rattle.ends.specs.Sections.{with_word}
 use Rattle.ends.proofs.section.put_word.Goals as goal
 

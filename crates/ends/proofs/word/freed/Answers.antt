@@ -1,5 +1,5 @@
 -- `freed` sets the bit of an end. Assumes nothing.
-use Rattle.std.proofs.Common.{◌<◌, length, rules}
+use Rattle.std.proofs.Common.{◌<◌, length}
 use Rattle.ends.proofs.Words.{word_freed}
 use Rattle.ends.proofs.word.freed.Goals as goal
 

@@ -1,5 +1,5 @@
 -- `names` looks at the bit of an end. Assumes nothing.
-use Rattle.std.proofs.Common.{◌<◌, length, rules}
+use Rattle.std.proofs.Common.{◌<◌, length}
 use Rattle.ends.proofs.Words.{word_holds}
 use Rattle.ends.proofs.word.names.Goals as goal
 

@@ -1,5 +1,5 @@
 -- `taken` clears the bit of an end. Assumes nothing.
-use Rattle.std.proofs.Common.{◌≡◌, subst, ℕ, ◌-◌, ◌^◌, ◌<◌, bit_and, length, rules}
+use Rattle.std.proofs.Common.{◌≡◌, subst, ℕ, ◌-◌, ◌^◌, ◌<◌, bit_and, length}
 use Rattle.rules.specs.State.{set_end}
 use Rattle.rules.specs.Layout.{free_word}
 use Rattle.ends.proofs.Words.{word_taken}

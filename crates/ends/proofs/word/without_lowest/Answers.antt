@@ -1,5 +1,5 @@
 -- `without_lowest` clears the lowest one. Assumes nothing.
-use Rattle.std.proofs.Common.{arith, rules}
+use Rattle.std.proofs.Common.{arith}
 use Rattle.ends.specs.Words.{ones_from, ends_in}
 use Rattle.ends.proofs.Words.{without_is}
 use Rattle.ends.proofs.word.without_lowest.Goals as goal

@@ -1,5 +1,4 @@
 -- `check` is the complement of the sum, folded twice. Assumes nothing.
-use Rattle.std.proofs.Common.{rules}
 use Rattle.image.proofs.Checks.{folded_small, check_is}
 use Rattle.image.proofs.block.check.Goals as goal
 

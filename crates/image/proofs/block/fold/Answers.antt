@@ -1,5 +1,5 @@
 -- `fold` is `folded`. Assumes nothing.
-use Rattle.std.proofs.Common.{refl, rules}
+use Rattle.std.proofs.Common.{refl}
 use Rattle.rules.specs.Image.{folded}
 use Rattle.image.proofs.block.fold.Goals as goal
 

@@ -1,7 +1,6 @@
 -- `word_sum` adds the words up from the front. The invariant: what is added up and the sum of the words left are the sum of all, and each
-use Rattle.std.proofs.Common.{◌≡◌, ◌+◌, ◌*◌, ◌-◌, ◌≤◌, arith, drop, rules}
+use Rattle.std.proofs.Common.{◌≡◌, ◌+◌, ◌*◌, ◌-◌, ◌≤◌, drop}
 use Rattle.rules.specs.Image.{word_sum}
-use Rattle.image.proofs.Checks.{sum_next, sum_end}
 use Rattle.image.proofs.block.word_sum.Given as goal
 
 abbrev pub invariant-loop-i : goal.invariant-loop-i

@@ -1,19 +1,18 @@
 -- `any_check_wrong` looks at the blocks from the front. The invariant: the blocks before i are right, so that a wrong one is among the n
-use Rattle.std.proofs.Common.{◌≡◌, sym, ap, ◌∙◌, ℕ, suc, ◌+◌, ◌*◌, ◌-◌, ◌≤◌, arith, take, drop, length-drop, length-take-le, rules}
-use borrow.Author.Tests.{not-true, not-false}
-use Rattle.rules.specs.Image.{block_size, any_check_wrong}
+use Rattle.std.proofs.Common.{◌≡◌, sym, ap, ◌∙◌, ℕ, suc, ◌+◌, ◌*◌, ◌-◌, arith, take, drop}
+use Rattle.rules.specs.Image.{block_size}
 use Rattle.image.proofs.Checks.{is_right, checks_next, checks_stop, checks_end}
 use Rattle.image.proofs.reading.any_check_wrong.Goals as goal
 use Rattle.image.proofs.reading.any_check_wrong.Goals.{After-right}
 
 -- what `right` says of block i
 told : (c : After-right)
-    → let image = c.before.before.before.before.before.args.image.now in
-    c.right.result ≡ is_right (take block_size (drop (block_size * c.before.before.before.loop-i.i) image))
+    → let image = c.args.image.now in
+    c.right.result ≡ is_right (take block_size (drop (block_size * c.loop-i.i) image))
 told c =
-    let at = block_size * c.before.before.before.loop-i.i in
+    let at = block_size * c.loop-i.i in
     let w : at + block_size - at ≡ block_size = omega arith in
-    c.right.ensures ∙ ap (λ (k : ℕ). is_right (take k (drop at c.before.before.before.before.before.args.image.now))) w
+    c.right.ensures ∙ ap (λ (k : ℕ). is_right (take k (drop at c.args.image.now))) w
 
 pub returns-then-not-right : goal.returns-then-not-right
 returns-then-not-right c =

@@ -1,8 +1,6 @@
 -- `any_check_wrong` looks at the blocks from the front. The invariant: the blocks before i are right, so that a wrong one is among the n
-use Rattle.std.proofs.Common.{◌≡◌, sym, ap, ◌∙◌, ℕ, suc, ◌+◌, ◌*◌, ◌-◌, ◌≤◌, arith, take, drop, length-drop, length-take-le, rules}
-use borrow.Author.Tests.{not-true, not-false}
+use Rattle.std.proofs.Common.{◌≡◌, ℕ, ◌+◌, ◌*◌, ◌-◌, ◌≤◌, drop}
 use Rattle.rules.specs.Image.{block_size, any_check_wrong}
-use Rattle.image.proofs.Checks.{is_right, checks_next, checks_stop, checks_end}
 use Rattle.image.proofs.reading.any_check_wrong.Given as goal
 
 abbrev pub invariant-loop-i : goal.invariant-loop-i

@@ -1,6 +1,5 @@
 -- `any_nonzero` looks at the bytes from the front. The invariant: those before i are zero, so that another one is among those from i on.
-use Rattle.std.proofs.Common.{◌≡◌, refl, sym, ◌∙◌, ◌-◌, ◌≤◌, arith, length, drop, rules}
-use Rattle.rules.specs.Image.{any_nonzero}
+use Rattle.std.proofs.Common.{sym, ◌∙◌, arith}
 use Rattle.image.proofs.Zeros.{zeros_next, zeros_stop, zeros_end}
 use Rattle.image.proofs.reading.any_nonzero.Goals as goal
 

@@ -1,5 +1,5 @@
 -- `read_data` tests the rows from 22 on in their order: each is passed, or the first that holds decides. Assumes nothing.
-use Rattle.std.proofs.Common.{◌≡◌, sym, ap, ◌∙◌, true, not, ℕ, ◌+◌, ◌-◌, ◌*◌, ◌≤◌, arith, length, get_or, rules, eq-eqb, ne_eqb, lt-ltb, le-ltb}
+use Rattle.std.proofs.Common.{◌≡◌, sym, ap, ◌∙◌, true, not, ℕ, ◌+◌, ◌-◌, ◌*◌, ◌≤◌, arith, length, get_or, eq-eqb, ne_eqb, lt-ltb, le-ltb}
 use Rattle.rules.specs.Limits.{code_limit}
 use Rattle.rules.specs.Refusal.{refused, done, unless}
 use Rattle.rules.specs.Image.{data_size, head_size, block_count, code_in, read_causes}

@@ -1,5 +1,5 @@
 -- `data_byte` is byte `at` of the head and the code, or 0 behind them. Assumes nothing.
-use Rattle.std.proofs.Common.{◌≡◌, sym, ap, ◌∙◌, List, ℕ, ◌+◌, ◌-◌, ◌≤◌, arith, rules, get_or}
+use Rattle.std.proofs.Common.{◌≡◌, sym, ap, ◌∙◌, List, ℕ, ◌+◌, ◌-◌, ◌≤◌, arith, get_or}
 use lib.ListN.{get_or-eq_default}
 use Rattle.rules.specs.Image.{head_size, headed}
 use Rattle.image.proofs.Writes.{behind_head}

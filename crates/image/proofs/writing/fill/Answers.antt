@@ -1,6 +1,6 @@
 -- `fill` writes the data byte by byte. The invariant: the first i bytes are written. Assumes nothing.
-use Rattle.std.proofs.Common.{◌≡◌, refl, ◌∙◌, ℕ, ◌+◌, ◌-◌, ◌≤◌, arith, length, get_or, length-set, rules}
-use Rattle.words.proofs.Tables.{Filled, filled_none, filled_more, filled_all}
+use Rattle.std.proofs.Common.{◌∙◌, arith, length}
+use Rattle.words.proofs.Tables.{filled_all}
 use Rattle.rules.specs.Image.{headed}
 use Rattle.image.proofs.Writes.{data_from}
 use Rattle.image.proofs.writing.fill.Goals as goal

@@ -1,8 +1,7 @@
 -- `fill` writes the data byte by byte. The invariant: the first i bytes are written. Assumes nothing.
-use Rattle.std.proofs.Common.{◌≡◌, refl, ◌∙◌, ℕ, ◌+◌, ◌-◌, ◌≤◌, arith, length, get_or, length-set, rules}
-use Rattle.words.proofs.Tables.{Filled, filled_none, filled_more, filled_all}
+use Rattle.std.proofs.Common.{◌≡◌, ℕ, ◌+◌, ◌-◌, ◌≤◌, length, get_or}
+use Rattle.words.proofs.Tables.{Filled}
 use Rattle.rules.specs.Image.{headed}
-use Rattle.image.proofs.Writes.{data_from}
 use Rattle.image.proofs.writing.fill.Given as goal
 
 abbrev pub invariant-loop-i : goal.invariant-loop-i

@@ -1,5 +1,5 @@
 -- `write_block` fills in the data, and writes its check behind it. Assumes nothing.
-use Rattle.std.proofs.Common.{sym, arith, drop, length-take-le, rules}
+use Rattle.std.proofs.Common.{sym, arith, drop, length-take-le}
 use Rattle.rules.specs.Image.{headed}
 use Rattle.image.proofs.Writes.{filled_size, block_is}
 use Rattle.image.proofs.writing.write_block.Goals as goal

@@ -1,8 +1,7 @@
 -- `write_blocks` writes one block after the other. The invariant: the first i are written, and all behind them is as it was.
-use Rattle.std.proofs.Common.{◌≡◌, refl, ap, ◌∙◌, ◌++◌, ℕ, ◌+◌, ◌-◌, ◌*◌, ◌≤◌, arith, length, drop, length-drop, length-take-le, rules}
+use Rattle.std.proofs.Common.{◌≡◌, ◌++◌, ◌-◌, ◌*◌, ◌≤◌, length, drop}
 use Rattle.rules.specs.Bytes.{pad}
 use Rattle.rules.specs.Image.{block_size, data_size, headed, blocks}
-use Rattle.image.proofs.Writes.{blocks_more, blocks_size}
 use Rattle.image.proofs.writing.write_blocks.Given as goal
 
 abbrev pub invariant-loop-i : goal.invariant-loop-i

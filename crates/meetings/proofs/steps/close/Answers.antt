@@ -1,5 +1,5 @@
 -- Close against close: both ends freed, always done. Assumes nothing.
-use Rattle.std.proofs.Common.{refl, rules}
+use Rattle.std.proofs.Common.{refl}
 use Rattle.rules.specs.Layout.{view}
 use Rattle.keeping.proofs.Memories.{memory_length}
 use Rattle.stepping.proofs.Steps.{done_step, memory_sized}

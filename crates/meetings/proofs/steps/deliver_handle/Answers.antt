@@ -1,5 +1,5 @@
 -- A handle against what the record wants: 18, or the record runs on at that place. Assumes nothing.
-use Rattle.std.proofs.Common.{ap, ◌∙◌, List, ℕ, ◌+◌, ◌*◌, rules}
+use Rattle.std.proofs.Common.{ap, ◌∙◌, List, ℕ, ◌+◌, ◌*◌}
 use Rattle.rules.specs.State.{handle}
 use Rattle.rules.specs.Layout.{view}
 use Rattle.keeping.proofs.Memories.{memory_length}

@@ -1,5 +1,5 @@
 -- A value against what the record wants: 18, or the record runs on with the value pushed. Assumes nothing.
-use Rattle.std.proofs.Common.{ap, ◌∙◌, arith, ℤ, to_z-of_z, rules}
+use Rattle.std.proofs.Common.{ap, ◌∙◌, arith, ℤ, to_z-of_z}
 use Rattle.rules.specs.State.{value}
 use Rattle.rules.specs.Layout.{view}
 use Rattle.keeping.proofs.Memories.{memory_length}

@@ -1,5 +1,5 @@
 -- A split against what the record wants: 18, 19, or two branches run and both ends are free. Assumes nothing.
-use Rattle.std.proofs.Common.{ap, ◌∙◌, ◌≤◌, ◌<◌, arith, rules}
+use Rattle.std.proofs.Common.{ap, ◌∙◌, ◌≤◌, ◌<◌, arith}
 use Rattle.rules.specs.Layout.{view}
 use Rattle.keeping.proofs.Memories.{memory_length}
 use Rattle.rules.specs.Limits.{record_count, end_count}

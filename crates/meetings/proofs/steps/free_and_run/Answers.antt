@@ -1,5 +1,4 @@
 -- Both ends freed, then two records saved. Assumes nothing.
-use Rattle.std.proofs.Common.{rules}
 use Rattle.ends.proofs.Changes.{sized_anew}
 use Rattle.stepping.proofs.Steps.{sized_record}
 use Rattle.meetings.proofs.steps.free_and_run.Goals as goal

@@ -1,5 +1,5 @@
 -- Both heads removed, then the record saved. Assumes nothing.
-use Rattle.std.proofs.Common.{sym, ap, ◌∙◌, subst, rules}
+use Rattle.std.proofs.Common.{sym, ap, ◌∙◌, subst}
 use Rattle.rules.specs.State.{EndState, end_at, set_end, behind_head}
 use Rattle.rules.specs.Layout.{layout}
 use Rattle.ends.specs.Ends.{EndFits}

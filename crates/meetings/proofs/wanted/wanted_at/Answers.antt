@@ -1,11 +1,6 @@
 -- What is decoded at the place says what is wanted there. Assumes nothing.
-use Rattle.std.proofs.Common.{sym, ap, ◌∙◌, rules}
-use mathlib.Core.Option.{Option}
-use Rattle.rules.specs.Instruction.{Decoded}
-use Rattle.rules.specs.EndStep.{decoded_wait}
 use Rattle.rules.specs.Layout.{view}
-use Rattle.stepping.proofs.Decoding.{decoded_good, decoded_bad, next_small}
-use Rattle.meetings.specs.Wanted.{wanted_by}
+use Rattle.stepping.proofs.Decoding.{decoded_good, next_small}
 use Rattle.meetings.proofs.wanted.wanted_at.Goals as goal
 
 pub overflow_cast-next : goal.overflow_cast-next

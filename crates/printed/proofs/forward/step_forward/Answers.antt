@@ -1,10 +1,10 @@
 -- The copy is the memory before the step, so what is read from it at the position of the step is what the step prints. Assumes nothing.
-use Rattle.std.proofs.Common.{◌≡◌, sym, ◌∙◌, subst, List, ℕ, length, rules}
+use Rattle.std.proofs.Common.{◌≡◌, sym, ◌∙◌, subst, List, ℕ, length}
 use Rattle.rules.specs.Layout.{state_size, view}
 use Rattle.words.proofs.Parts.{put_all}
 use Rattle.keeping.specs.Demand3.{SoundMemory}
 use Rattle.printed.specs.Meaning.{PrintsAt}
-use Rattle.printed.proofs.Going.{told, position_below, stepped, none_steps}
+use Rattle.printed.proofs.Going.{told, position_below, stepped}
 use Rattle.printed.proofs.forward.step_forward.Goals as goal
 use Rattle.printed.proofs.forward.step_forward.Goals.{After-copy}
 

@@ -1,5 +1,5 @@
 -- The two groups of first bytes. Assumes nothing.
-use Rattle.std.proofs.Common.{rules, lt-ltb, le-ltb}
+use Rattle.std.proofs.Common.{lt-ltb, le-ltb}
 use Rattle.printed.specs.Meaning.{row_of}
 use Rattle.printed.proofs.line_words.row_of.Goals as goal
 

@@ -1,5 +1,5 @@
 -- The word of the kind, and behind it the number where it has one. Assumes nothing.
-use Rattle.std.proofs.Common.{◌≡◌, sym, ap, ◌∙◌, ◌++◌, w32, to_z-of_z, rules}
+use Rattle.std.proofs.Common.{◌≡◌, sym, ap, ◌∙◌, ◌++◌, w32, to_z-of_z}
 use Rattle.rules.specs.Text.{signed_decimal}
 use Rattle.rules.specs.Printed.{kind_text}
 use Rattle.text.specs.Written.{Written}

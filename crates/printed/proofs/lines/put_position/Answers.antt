@@ -1,5 +1,4 @@
 -- A letter and a number. Assumes nothing.
-use Rattle.std.proofs.Common.{rules}
 use Rattle.text.proofs.Texts.{written_as, room_as}
 use Rattle.printed.proofs.LineBytes.{record_text, end_text}
 use Rattle.printed.proofs.lines.put_position.Goals as goal

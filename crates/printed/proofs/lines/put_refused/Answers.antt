@@ -1,5 +1,5 @@
 -- A word, a number and the line's end. Assumes nothing.
-use Rattle.std.proofs.Common.{[], ◌∷◌, ◌++◌, ◌+◌, ◌≤◌, length, rules}
+use Rattle.std.proofs.Common.{[], ◌∷◌, ◌++◌, ◌+◌, ◌≤◌, length}
 use Rattle.rules.specs.Text.{decimal}
 use Rattle.text.proofs.Texts.{written_more, written_as, room_as, room_first, room_rest}
 use Rattle.printed.proofs.LineBytes.{refused_word, refused_text}

@@ -1,5 +1,5 @@
 -- The word in the verdict's row. Assumes nothing.
-use Rattle.std.proofs.Common.{◌≡◌, ap, ◌∙◌, rules}
+use Rattle.std.proofs.Common.{◌≡◌, ap, ◌∙◌}
 use Rattle.rules.specs.Printed.{verdict_text}
 use Rattle.text.proofs.Texts.{written_as, room_as}
 use Rattle.printed.specs.Meaning.{verdict_in}

@@ -1,5 +1,5 @@
 -- The heads of the end and of its partner. Assumes nothing.
-use Rattle.std.proofs.Common.{◌≡◌, refl, sym, ap, ◌∙◌, ◌-◌, ◌<◌, rules}
+use Rattle.std.proofs.Common.{◌≡◌, refl, sym, ap, ◌∙◌, ◌-◌, ◌<◌}
 use Rattle.rules.specs.Limits.{record_count, end_count}
 use Rattle.rules.specs.State.{end_at, head_of}
 use Rattle.rules.specs.RecordStep.{partner_in}

@@ -1,5 +1,5 @@
 -- The first byte at the record's place tells the instruction. Assumes nothing.
-use Rattle.std.proofs.Common.{◌≡◌, refl, ap, ◌∙◌, subst, List, ℕ, ◌≤◌, length, get_or, pos, rules}
+use Rattle.std.proofs.Common.{◌≡◌, refl, ap, ◌∙◌, subst, List, ℕ, ◌≤◌, length, get_or, pos}
 use mathlib.Core.Option.{some}
 use Rattle.rules.specs.Instruction.{decode}
 use Rattle.rules.specs.Printed.{Printed, printed, instruction_kind, printed_decoded, printed_at}

@@ -1,5 +1,5 @@
 -- The lines and the last one. Assumes nothing.
-use Rattle.std.proofs.Common.{ap, ◌∙◌, ◌+◌, ◌≤◌, ◌<◌, arith, length, rules}
+use Rattle.std.proofs.Common.{ap, ◌∙◌, ◌+◌, ◌≤◌, ◌<◌, arith, length}
 use Rattle.rules.specs.Run.{steps}
 use Rattle.rules.specs.Printed.{trace_budget, lines_text}
 use Rattle.rules.specs.Layout.{view}

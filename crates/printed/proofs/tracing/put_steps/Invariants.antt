@@ -1,10 +1,8 @@
 -- The lines one after the other. The invariant: those of the steps made so far stand in the buffer. Assumes nothing.
-use Rattle.std.proofs.Common.{◌≡◌, refl, ◌-◌, ◌≤◌, arith, length, w32, SFits, rules}
+use Rattle.std.proofs.Common.{◌≡◌, ◌-◌, ◌≤◌, length}
 use Rattle.rules.specs.Printed.{trace_budget}
 use Rattle.rules.specs.Layout.{view}
-use Rattle.keeping.proofs.Memories.{memory_length}
-use Rattle.runner.proofs.Making.{memory_sound}
-use Rattle.printed.proofs.RunLines.{LinesSoFar, no_lines, lines_end, budget_end, position_below, line_room, one_line}
+use Rattle.printed.proofs.RunLines.{LinesSoFar}
 use Rattle.printed.proofs.tracing.put_steps.Given as goal
 
 abbrev pub invariant-loop-made : goal.invariant-loop-made

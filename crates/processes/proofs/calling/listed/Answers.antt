@@ -1,5 +1,5 @@
 -- The part of the code behind the fixed part. Assumes nothing.
-use Rattle.std.proofs.Common.{ap, ◌∙◌, List, ◌+◌, ◌-◌, ◌≤◌, arith, length, take, drop, rules}
+use Rattle.std.proofs.Common.{ap, ◌∙◌, List, ◌+◌, ◌-◌, take, drop}
 use Rattle.processes.proofs.Listed.{listed_part}
 use Rattle.processes.proofs.calling.listed.Goals as goal
 

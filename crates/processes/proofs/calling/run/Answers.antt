@@ -1,5 +1,5 @@
 -- run: what its rows say, or the callee. Assumes nothing.
-use Rattle.std.proofs.Common.{arith, rules}
+use Rattle.std.proofs.Common.{arith}
 use Rattle.rules.specs.Instruction.{Instruction, slots_at, run}
 use Rattle.rules.specs.Layout.{view}
 use Rattle.rules.specs.declared.Reply.TheVariants.{Done}

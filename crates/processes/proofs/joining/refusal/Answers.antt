@@ -1,5 +1,5 @@
 -- 12 or 14, or none of them. Assumes nothing.
-use Rattle.std.proofs.Common.{◌≡◌, sym, ◌∙◌, false, arith, rules, eq-eqb, ne_eqb}
+use Rattle.std.proofs.Common.{◌≡◌, sym, ◌∙◌, false, arith, eq-eqb, ne_eqb}
 use Rattle.rules.specs.State.{State, Registers as Process, end_at, end_in, is_free_end}
 use Rattle.rules.specs.Causes.{partners}
 use Rattle.rules.specs.Layout.{layout}

@@ -1,11 +1,11 @@
 -- same: what its rows say, or the two ends joined and the record free. Assumes nothing.
-use Rattle.std.proofs.Common.{◌≡◌, sym, ap, ◌∙◌, ℕ, arith, rules}
+use Rattle.std.proofs.Common.{◌≡◌, sym, ap, ◌∙◌, ℕ, arith}
 use Rattle.rules.specs.State.{Registers as Process, running, record_at, end_in, end_at, is_free_end}
 use Rattle.rules.specs.Instruction.{same}
 use Rattle.rules.specs.Layout.{layout, view}
 use Rattle.rules.specs.Numbers.{end_number}
 use Rattle.rules.specs.declared.Reply.TheVariants.{Done}
-use Rattle.stepping.proofs.Steps.{refused_step, done_step, memory_sized, in_range}
+use Rattle.stepping.proofs.Steps.{refused_step, done_step, memory_sized}
 use Rattle.stepping.proofs.Begun.{Begun, told, within, held, own_step, passes}
 use Rattle.processes.specs.Joinable.{shared_reply}
 use Rattle.processes.proofs.JoinCases.{first_end, second_end, joinable, shared_refused, same_done, sized_joined, same_after}

@@ -1,5 +1,5 @@
 -- plug: what its rows say, 15, or the two processes. Assumes nothing.
-use Rattle.std.proofs.Common.{◌≡◌, false, arith, rules}
+use Rattle.std.proofs.Common.{◌≡◌, false, arith}
 use Rattle.rules.specs.State.{lowest_free_record}
 use Rattle.rules.specs.Instruction.{Instruction, plug}
 use Rattle.rules.specs.Causes.{few_free_ends, no_free_record}

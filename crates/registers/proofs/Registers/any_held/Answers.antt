@@ -1,5 +1,4 @@
 -- `any_held` asks it of the slots. Assumes nothing.
-use Rattle.std.proofs.Common.{rules}
 use Rattle.registers.proofs.Fields.{by_fields}
 use Rattle.registers.proofs.Registers.any_held.Goals as goal
 

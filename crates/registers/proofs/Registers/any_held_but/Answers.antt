@@ -1,5 +1,5 @@
 -- `any_held_but` empties the listed slots and asks of the others. Assumes nothing.
-use Rattle.std.proofs.Common.{◌∙◌, rules}
+use Rattle.std.proofs.Common.{◌∙◌}
 use Rattle.registers.proofs.Fields.{by_fields}
 use Rattle.registers.proofs.ListedLaws.{length_emptied}
 use Rattle.registers.proofs.Registers.any_held_but.Goals as goal

@@ -1,6 +1,6 @@
 -- `below` reads the cell. Assumes nothing.
 use Rattle.std.specs.Int.{w32}
-use Rattle.std.proofs.Common.{◌∙◌, arith, to_z-of_z, rules}
+use Rattle.std.proofs.Common.{◌∙◌, arith, to_z-of_z}
 use Rattle.registers.proofs.Fields.{by_fields}
 use Rattle.registers.proofs.ValueLaws.{value_is}
 use Rattle.registers.proofs.Registers.below.Goals as goal

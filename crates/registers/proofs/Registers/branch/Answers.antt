@@ -1,5 +1,5 @@
 -- `branch` keeps the slots of the set, then holds the end. Assumes nothing.
-use Rattle.std.proofs.Common.{◌∙◌, rules}
+use Rattle.std.proofs.Common.{◌∙◌}
 use Rattle.keeping.proofs.SlotLaws.{length_kept}
 use Rattle.registers.proofs.Registers.branch.Goals as goal
 

@@ -1,5 +1,4 @@
 -- `called` passes the values, then gives the listed slots. Assumes nothing.
-use Rattle.std.proofs.Common.{rules}
 use Rattle.rules.specs.Slots.{callee_slots}
 use Rattle.registers.specs.Registers.{passed}
 use Rattle.registers.proofs.Fields.{by_fields, from_fields, with_place, with_slots_lem}

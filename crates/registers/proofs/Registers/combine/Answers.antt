@@ -1,5 +1,5 @@
 -- `combine` takes two values off and puts one in front. Assumes nothing.
-use Rattle.std.proofs.Common.{ap, ◌∙◌, ◌∷◌, drop, drop-drop, pos, to_z-of_z, rules}
+use Rattle.std.proofs.Common.{ap, ◌∙◌, ◌∷◌, drop, drop-drop, pos, to_z-of_z}
 use Rattle.rules.specs.Limits.{stack_depth}
 use Rattle.rules.specs.Bytes.{pad}
 use Rattle.registers.proofs.Fields.{by_fields, from_fields, with_stack}

@@ -1,5 +1,4 @@
 -- `end_in` takes one off the slot's byte. Assumes nothing.
-use Rattle.std.proofs.Common.{rules}
 use Rattle.registers.proofs.Fields.{by_fields}
 use Rattle.registers.proofs.SlotLaws.{byte_empty, byte_held}
 use Rattle.rules.specs.State.{slot_at}

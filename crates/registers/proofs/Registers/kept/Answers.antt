@@ -1,5 +1,5 @@
 -- `kept` keeps the slots of the set. Assumes nothing.
-use Rattle.std.proofs.Common.{refl, [], rules}
+use Rattle.std.proofs.Common.{refl, []}
 use Rattle.rules.specs.Bytes.{pad}
 use Rattle.rules.specs.Slots.{kept_by}
 use Rattle.registers.proofs.Fields.{by_fields, from_fields, with_place, with_stack, with_slots_lem}

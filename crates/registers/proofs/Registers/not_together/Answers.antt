@@ -1,5 +1,4 @@
 -- `not_together` asks it of the slots. Assumes nothing.
-use Rattle.std.proofs.Common.{rules}
 use Rattle.registers.proofs.Fields.{by_fields}
 use Rattle.registers.proofs.Registers.not_together.Goals as goal
 

@@ -1,8 +1,6 @@
 -- `pass` stores one value after the other. The invariant: the first k are stored. Assumes nothing.
-use Rattle.std.proofs.Common.{◌≡◌, refl, ◌∙◌, ap, [], ℕ, ◌+◌, ◌-◌, ◌≤◌, arith, length, rules}
-use Rattle.rules.specs.Limits.{stack_depth}
+use Rattle.std.proofs.Common.{◌≡◌, refl, ◌∙◌, ap, [], ℕ, arith}
 use Rattle.rules.specs.Bytes.{pad}
-use Rattle.rules.specs.State.{Registers as Process, registers}
 use Rattle.registers.specs.Registers.{registers_of, passed}
 use Rattle.registers.proofs.Fields.{by_fields, from_fields, with_environment}
 use Rattle.registers.proofs.ValueLaws.{dropped_fits, stored_passed}

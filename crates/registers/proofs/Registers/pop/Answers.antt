@@ -1,6 +1,6 @@
 -- `pop` answers the first cell and the cells behind it. Assumes nothing.
 use Rattle.std.specs.Int.{w32}
-use Rattle.std.proofs.Common.{◌∙◌, arith, drop, to_z-of_z, rules}
+use Rattle.std.proofs.Common.{◌∙◌, arith, drop, to_z-of_z}
 use Rattle.registers.proofs.Fields.{by_fields, from_fields, with_stack}
 use Rattle.registers.proofs.ValueLaws.{value_is, one_less}
 use Rattle.registers.proofs.Registers.pop.Goals as goal

@@ -1,5 +1,5 @@
 -- `put_slot` puts the slot anew. Assumes nothing.
-use Rattle.std.proofs.Common.{set, rules}
+use Rattle.std.proofs.Common.{set}
 use Rattle.registers.proofs.Fields.{by_fields, from_fields, with_slots_lem}
 use Rattle.registers.proofs.Registers.put_slot.Goals as goal
 

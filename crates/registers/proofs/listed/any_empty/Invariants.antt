@@ -1,11 +1,8 @@
 -- `any_empty` looks at one listed slot after the other. The invariant: some is empty exactly if one behind the first k is.
-use Rattle.std.proofs.Common.{◌≡◌, refl, ap, ◌-◌, ◌≤◌, arith, length, get_or, drop, rules, not}
-use mathlib.Core.Option.{none}
+use Rattle.std.proofs.Common.{◌≡◌, ◌-◌, ◌≤◌, length, drop}
 use Rattle.rules.specs.Limits.{slot_count}
 use Rattle.rules.specs.Slots.{Slots, any_empty}
 use Rattle.registers.specs.Registers.{slot_bytes}
-use Rattle.registers.proofs.SlotLaws.{held_byte, empty_byte}
-use Rattle.registers.proofs.Search.{found, passed, none_found, empty_search}
 use Rattle.registers.proofs.listed.any_empty.Given as goal
 
 abbrev pub invariant-loop-k : goal.invariant-loop-k

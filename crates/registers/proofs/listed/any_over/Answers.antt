@@ -1,8 +1,7 @@
 -- `any_over` looks at one listed slot after the other. The invariant: some is over exactly if one behind the first k is. Assumes nothing.
-use Rattle.std.proofs.Common.{◌≡◌, refl, ◌-◌, ◌≤◌, arith, length, get_or, drop, rules, le-leb}
+use Rattle.std.proofs.Common.{arith, get_or, le-leb}
 use borrow.Author.Tests.{lt-leb}
 use Rattle.rules.specs.Limits.{slot_count}
-use Rattle.rules.specs.Slots.{any_over}
 use Rattle.registers.proofs.Search.{found, passed, none_found, over_search}
 use Rattle.registers.proofs.listed.any_over.Goals as goal
 

@@ -1,9 +1,6 @@
 -- `any_over` looks at one listed slot after the other. The invariant: some is over exactly if one behind the first k is. Assumes nothing.
-use Rattle.std.proofs.Common.{◌≡◌, refl, ◌-◌, ◌≤◌, arith, length, get_or, drop, rules, le-leb}
-use borrow.Author.Tests.{lt-leb}
-use Rattle.rules.specs.Limits.{slot_count}
+use Rattle.std.proofs.Common.{◌≡◌, ◌-◌, ◌≤◌, length, drop}
 use Rattle.rules.specs.Slots.{any_over}
-use Rattle.registers.proofs.Search.{found, passed, none_found, over_search}
 use Rattle.registers.proofs.listed.any_over.Given as goal
 
 abbrev pub invariant-loop-k : goal.invariant-loop-k

@@ -1,6 +1,6 @@
 -- `any_repeated` looks for one listed slot after the other behind it. The invariant: some is repeated exactly if one behind the first k
-use Rattle.std.proofs.Common.{◌≡◌, refl, sym, ap, ◌∙◌, ◌+◌, ◌-◌, ◌≤◌, arith, length, get_or, drop, length-drop, take_all, rules}
-use Rattle.rules.specs.Slots.{listed as in_list, any_repeated}
+use Rattle.std.proofs.Common.{◌≡◌, sym, ap, ◌∙◌, ◌+◌, ◌-◌, arith, length, get_or, drop, length-drop, take_all}
+use Rattle.rules.specs.Slots.{listed as in_list}
 use Rattle.registers.proofs.Search.{found, passed, none_found, repeated_search}
 use Rattle.registers.proofs.listed.any_repeated.Goals as goal
 use Rattle.registers.proofs.listed.any_repeated.Goals.{After-has}

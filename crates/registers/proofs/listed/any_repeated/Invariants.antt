@@ -1,7 +1,6 @@
 -- `any_repeated` looks for one listed slot after the other behind it. The invariant: some is repeated exactly if one behind the first k
-use Rattle.std.proofs.Common.{◌≡◌, refl, sym, ap, ◌∙◌, ◌+◌, ◌-◌, ◌≤◌, arith, length, get_or, drop, length-drop, take_all, rules}
-use Rattle.rules.specs.Slots.{listed as in_list, any_repeated}
-use Rattle.registers.proofs.Search.{found, passed, none_found, repeated_search}
+use Rattle.std.proofs.Common.{◌≡◌, ◌-◌, ◌≤◌, length, drop}
+use Rattle.rules.specs.Slots.{any_repeated}
 use Rattle.registers.proofs.listed.any_repeated.Given as goal
 
 abbrev pub invariant-loop-k : goal.invariant-loop-k

@@ -1,11 +1,8 @@
 -- `callee` fills the slots one after the other. The invariant: the first k are those of the callee. Assumes nothing.
-use Rattle.std.proofs.Common.{◌≡◌, refl, ap, ◌∙◌, ℕ, ◌-◌, ◌≤◌, arith, length, get_or, rules}
-use mathlib.Core.Option.{none}
-use Rattle.rules.specs.Limits.{slot_count}
-use Rattle.rules.specs.Slots.{Slots, callee_slots}
+use Rattle.std.proofs.Common.{ap, ◌∙◌, arith, rules}
+use Rattle.rules.specs.Slots.{callee_slots}
 use Rattle.rules.specs.Layout.{optional}
-use Rattle.words.proofs.Tables.{Filled, filled_none, filled_more}
-use Rattle.registers.specs.Registers.{slot_bytes}
+use Rattle.words.proofs.Tables.{filled_more}
 use Rattle.registers.proofs.SlotLaws.{slots_are}
 use Rattle.registers.proofs.ListedLaws.{callee_slot}
 use Rattle.registers.proofs.listed.callee.Goals as goal

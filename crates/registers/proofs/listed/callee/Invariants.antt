@@ -1,13 +1,11 @@
 -- `callee` fills the slots one after the other. The invariant: the first k are those of the callee. Assumes nothing.
-use Rattle.std.proofs.Common.{◌≡◌, refl, ap, ◌∙◌, ℕ, ◌-◌, ◌≤◌, arith, length, get_or, rules}
+use Rattle.std.proofs.Common.{◌≡◌, ℕ, ◌-◌, ◌≤◌, length, get_or}
 use mathlib.Core.Option.{none}
 use Rattle.rules.specs.Limits.{slot_count}
 use Rattle.rules.specs.Slots.{Slots, callee_slots}
 use Rattle.rules.specs.Layout.{optional}
-use Rattle.words.proofs.Tables.{Filled, filled_none, filled_more}
+use Rattle.words.proofs.Tables.{Filled}
 use Rattle.registers.specs.Registers.{slot_bytes}
-use Rattle.registers.proofs.SlotLaws.{slots_are}
-use Rattle.registers.proofs.ListedLaws.{callee_slot}
 use Rattle.registers.proofs.listed.callee.Given as goal
 
 abbrev pub invariant-loop-k : goal.invariant-loop-k

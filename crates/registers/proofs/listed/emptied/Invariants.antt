@@ -1,10 +1,8 @@
 -- `emptied` empties one listed slot after the other. The invariant: the first k are emptied. Assumes nothing.
-use Rattle.std.proofs.Common.{◌≡◌, refl, ap, ◌∙◌, List, ℕ, ◌-◌, ◌≤◌, arith, length, take, take_all, rules}
-use mathlib.Core.Option.{none}
+use Rattle.std.proofs.Common.{◌≡◌, ◌-◌, ◌≤◌, length, take}
 use Rattle.rules.specs.Limits.{slot_count}
 use Rattle.rules.specs.Slots.{Slots, all_emptied}
 use Rattle.registers.specs.Registers.{slot_bytes}
-use Rattle.registers.proofs.ListedLaws.{length_emptied, emptied_more}
 use Rattle.registers.proofs.listed.emptied.Given as goal
 
 abbrev pub invariant-loop-k : goal.invariant-loop-k

@@ -1,6 +1,5 @@
 -- `has` looks at one listed slot after the other. The invariant: c is listed exactly if it is behind the first k. Assumes nothing.
-use Rattle.std.proofs.Common.{◌≡◌, refl, ◌-◌, ◌≤◌, arith, length, get_or, drop, rules, eq-eqb, ne_eqb}
-use Rattle.rules.specs.Slots.{listed as in_list}
+use Rattle.std.proofs.Common.{arith, get_or, eq-eqb, ne_eqb}
 use Rattle.registers.proofs.Search.{found, passed, none_found, listed_search}
 use Rattle.registers.proofs.listed.has.Goals as goal
 

@@ -1,7 +1,6 @@
 -- `has` looks at one listed slot after the other. The invariant: c is listed exactly if it is behind the first k. Assumes nothing.
-use Rattle.std.proofs.Common.{◌≡◌, refl, ◌-◌, ◌≤◌, arith, length, get_or, drop, rules, eq-eqb, ne_eqb}
+use Rattle.std.proofs.Common.{◌≡◌, ◌-◌, ◌≤◌, length, drop}
 use Rattle.rules.specs.Slots.{listed as in_list}
-use Rattle.registers.proofs.Search.{found, passed, none_found, listed_search}
 use Rattle.registers.proofs.listed.has.Given as goal
 
 abbrev pub invariant-loop-k : goal.invariant-loop-k

@@ -1,5 +1,5 @@
 -- `clear` copies zeros over the record. Assumes nothing.
-use Rattle.std.proofs.Common.{sym, ◌∙◌, rules}
+use Rattle.std.proofs.Common.{sym, ◌∙◌}
 use Rattle.rules.specs.State.{free_record}
 use Rattle.rules.specs.Numbers.{record_number}
 use Rattle.words.specs.Parts.{put_at}

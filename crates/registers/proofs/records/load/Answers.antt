@@ -1,5 +1,5 @@
 -- `load` reads each field where it stands. Assumes nothing.
-use Rattle.std.proofs.Common.{◌∙◌, arith, rules}
+use Rattle.std.proofs.Common.{◌∙◌, arith}
 use Rattle.rules.specs.State.{record_at}
 use Rattle.rules.specs.Numbers.{record_number}
 use Rattle.registers.specs.Registers.{registers_in}

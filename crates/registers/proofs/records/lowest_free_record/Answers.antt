@@ -1,10 +1,7 @@
 -- `lowest_free_record` looks at one record after the other. The invariant: none of the first k is free. Assumes nothing.
-use Rattle.std.proofs.Common.{◌≡◌, ◌-◌, ◌≤◌, arith, rules}
-use Rattle.rules.specs.Limits.{record_count}
-use Rattle.rules.specs.State.{State, record_at}
-use Rattle.rules.specs.Layout.{layout}
-use Rattle.keeping.proofs.LayoutLaws.{Sized}
-use Rattle.registers.proofs.FreeRecords.{InUse, is_free, in_use, not_free, more_in_use, lowest_is, none_free}
+use Rattle.std.proofs.Common.{arith}
+use Rattle.rules.specs.State.{record_at}
+use Rattle.registers.proofs.FreeRecords.{is_free, lowest_is, none_free}
 use Rattle.registers.proofs.records.lowest_free_record.Goals as goal
 
 pub returns-in-Free : goal.returns-in-Free

@@ -1,10 +1,10 @@
 -- `lowest_free_record` looks at one record after the other. The invariant: none of the first k is free. Assumes nothing.
-use Rattle.std.proofs.Common.{◌≡◌, ◌-◌, ◌≤◌, arith, rules}
+use Rattle.std.proofs.Common.{◌≡◌, ◌-◌, ◌≤◌}
 use Rattle.rules.specs.Limits.{record_count}
-use Rattle.rules.specs.State.{State, record_at}
+use Rattle.rules.specs.State.{State}
 use Rattle.rules.specs.Layout.{layout}
 use Rattle.keeping.proofs.LayoutLaws.{Sized}
-use Rattle.registers.proofs.FreeRecords.{InUse, is_free, in_use, not_free, more_in_use, lowest_is, none_free}
+use Rattle.registers.proofs.FreeRecords.{InUse}
 use Rattle.registers.proofs.records.lowest_free_record.Given as goal
 
 abbrev pub invariant-loop-k : goal.invariant-loop-k

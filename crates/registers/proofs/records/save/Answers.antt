@@ -1,5 +1,5 @@
 -- `save` writes the numbers, the slots, the stack and the environment. Assumes nothing.
-use Rattle.std.proofs.Common.{ap, ◌∙◌, ◌∷◌, ℕ, rules}
+use Rattle.std.proofs.Common.{ap, ◌∙◌, ◌∷◌, ℕ}
 use Rattle.rules.specs.Layout.{registers_bytes}
 use Rattle.words.specs.Parts.{put_at}
 use Rattle.registers.proofs.Fields.{by_fields}

@@ -1,5 +1,5 @@
 -- `save_running` saves with the status of a record that runs. Assumes nothing.
-use Rattle.std.proofs.Common.{◌∙◌, rules}
+use Rattle.std.proofs.Common.{◌∙◌}
 use Rattle.rules.specs.State.{running}
 use Rattle.rules.specs.Numbers.{record_number}
 use Rattle.registers.proofs.WriteLaws.{record_saved}

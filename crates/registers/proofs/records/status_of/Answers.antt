@@ -1,5 +1,5 @@
 -- `status_of` reads the first byte of the record. Assumes nothing.
-use Rattle.std.proofs.Common.{◌≡◌, ◌∙◌, rules}
+use Rattle.std.proofs.Common.{◌≡◌, ◌∙◌}
 use Rattle.rules.specs.State.{State, record_at}
 use Rattle.rules.specs.Layout.{layout}
 use Rattle.rules.specs.Numbers.{record_number}

@@ -1,11 +1,8 @@
 -- `any_held` looks at one slot after the other. The invariant: some slot is held exactly if one behind the first k is. Assumes nothing.
-use Rattle.std.proofs.Common.{◌≡◌, refl, ◌-◌, ◌≤◌, arith, length, get_or, drop, rules}
-use mathlib.Core.Option.{none}
+use Rattle.std.proofs.Common.{◌≡◌, ◌-◌, ◌≤◌, length, drop}
 use Rattle.rules.specs.Limits.{slot_count}
 use Rattle.rules.specs.Slots.{Slots, any_held}
 use Rattle.registers.specs.Registers.{slot_bytes}
-use Rattle.registers.proofs.SlotLaws.{slot_byte, held_byte, empty_byte}
-use Rattle.registers.proofs.Search.{found, passed, none_found, held_search}
 use Rattle.registers.proofs.slots.any_held.Given as goal
 
 abbrev pub invariant-loop-k : goal.invariant-loop-k

@@ -1,6 +1,5 @@
 -- `slots::at` reads the slot, and nothing over the last one. Assumes nothing.
-use Rattle.std.proofs.Common.{rules}
-use Rattle.registers.proofs.SlotLaws.{slot_byte, no_slot}
+use Rattle.registers.proofs.SlotLaws.{slot_byte}
 use Rattle.registers.proofs.slots.at.Goals as goal
 
 pub returns : goal.returns

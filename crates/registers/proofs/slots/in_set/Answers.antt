@@ -1,5 +1,4 @@
 -- `in_set` shifts the slot's bit down. Assumes nothing.
-use Rattle.std.proofs.Common.{rules}
 use Rattle.registers.proofs.SlotLaws.{in_set_is}
 use Rattle.registers.proofs.slots.in_set.Goals as goal
 

@@ -1,11 +1,9 @@
 -- `kept` fills the slots one after the other. The invariant: the first k are those of the set. Assumes nothing.
-use Rattle.std.proofs.Common.{◌≡◌, refl, sym, ap, ◌∙◌, ℕ, ◌-◌, ◌≤◌, arith, length, get_or, rules}
+use Rattle.std.proofs.Common.{sym, ap, ◌∙◌, arith, get_or, rules}
 use mathlib.Core.Option.{none}
-use Rattle.rules.specs.Limits.{slot_count}
-use Rattle.rules.specs.Slots.{Slots, kept_by}
+use Rattle.rules.specs.Slots.{kept_by}
 use Rattle.rules.specs.Layout.{optional}
-use Rattle.words.proofs.Tables.{Filled, filled_none, filled_more}
-use Rattle.registers.specs.Registers.{slot_bytes}
+use Rattle.words.proofs.Tables.{filled_more}
 use Rattle.registers.proofs.SlotLaws.{slot_byte, slots_are, kept_slot}
 use Rattle.registers.proofs.slots.kept.Goals as goal
 

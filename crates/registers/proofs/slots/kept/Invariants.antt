@@ -1,12 +1,11 @@
 -- `kept` fills the slots one after the other. The invariant: the first k are those of the set. Assumes nothing.
-use Rattle.std.proofs.Common.{◌≡◌, refl, sym, ap, ◌∙◌, ℕ, ◌-◌, ◌≤◌, arith, length, get_or, rules}
+use Rattle.std.proofs.Common.{◌≡◌, ℕ, ◌-◌, ◌≤◌, length, get_or}
 use mathlib.Core.Option.{none}
 use Rattle.rules.specs.Limits.{slot_count}
 use Rattle.rules.specs.Slots.{Slots, kept_by}
 use Rattle.rules.specs.Layout.{optional}
-use Rattle.words.proofs.Tables.{Filled, filled_none, filled_more}
+use Rattle.words.proofs.Tables.{Filled}
 use Rattle.registers.specs.Registers.{slot_bytes}
-use Rattle.registers.proofs.SlotLaws.{slot_byte, slots_are, kept_slot}
 use Rattle.registers.proofs.slots.kept.Given as goal
 
 abbrev pub invariant-loop-k : goal.invariant-loop-k

@@ -1,9 +1,6 @@
 -- `not_together` looks at one slot after the other, the sets shifted along. The invariant: the sets are together the held slots exactly if
-use Rattle.std.proofs.Common.{◌≡◌, refl, sym, ◌∙◌, ◌-◌, ◌≤◌, arith, length, get_or, drop, rules}
+use Rattle.std.proofs.Common.{sym, ◌∙◌, arith, get_or}
 use mathlib.Core.Option.{none}
-use Rattle.rules.specs.Limits.{slot_count}
-use Rattle.rules.specs.Slots.{Slots, not_together}
-use Rattle.registers.specs.Registers.{slot_bytes}
 use Rattle.registers.proofs.SlotLaws.{slot_byte}
 use Rattle.registers.proofs.Search.{found, passed, none_found, together_search}
 use Rattle.registers.proofs.slots.not_together.Goals as goal

@@ -1,11 +1,8 @@
 -- `not_together` looks at one slot after the other, the sets shifted along. The invariant: the sets are together the held slots exactly if
-use Rattle.std.proofs.Common.{◌≡◌, refl, sym, ◌∙◌, ◌-◌, ◌≤◌, arith, length, get_or, drop, rules}
-use mathlib.Core.Option.{none}
+use Rattle.std.proofs.Common.{◌≡◌, ◌-◌, ◌≤◌, length, drop}
 use Rattle.rules.specs.Limits.{slot_count}
 use Rattle.rules.specs.Slots.{Slots, not_together}
 use Rattle.registers.specs.Registers.{slot_bytes}
-use Rattle.registers.proofs.SlotLaws.{slot_byte}
-use Rattle.registers.proofs.Search.{found, passed, none_found, together_search}
 use Rattle.registers.proofs.slots.not_together.Given as goal
 
 abbrev pub invariant-loop-k : goal.invariant-loop-k

@@ -1,8 +1,6 @@
 -- `overlap` looks at one slot after the other, the sets shifted along. The invariant: the sets overlap exactly if those shifted by k do,
-use Rattle.std.proofs.Common.{◌≡◌, refl, sym, ◌∙◌, ◌-◌, ◌≤◌, arith, length, drop, rules}
+use Rattle.std.proofs.Common.{sym, ◌∙◌, arith}
 use mathlib.Core.Option.{none}
-use Rattle.rules.specs.Limits.{slot_count}
-use Rattle.rules.specs.Slots.{Slots, overlap}
 use Rattle.registers.proofs.Search.{found, passed, none_found, overlap_search}
 use Rattle.registers.proofs.slots.overlap.Goals as goal
 

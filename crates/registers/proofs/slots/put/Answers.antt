@@ -1,6 +1,5 @@
 -- `slots::put` stores into a copy, and nothing over the last slot. Assumes nothing.
-use Rattle.std.proofs.Common.{rules}
-use Rattle.registers.proofs.SlotLaws.{set_slot, set_no_slot}
+use Rattle.registers.proofs.SlotLaws.{set_slot}
 use Rattle.registers.proofs.slots.put.Goals as goal
 
 pub returns : goal.returns

@@ -1,8 +1,7 @@
 -- `behind_first` puts each value one cell back. The invariant: the first k are the next ones, and the last cell is still zero. Assumes
-use Rattle.std.proofs.Common.{◌≡◌, refl, ap, ◌∙◌, ℕ, ◌+◌, ◌-◌, ◌≤◌, arith, length, get_or, get_or-set_other, pos, to_z-of_z, rules}
+use Rattle.std.proofs.Common.{◌≡◌, ap, ◌∙◌, ℕ, arith, length, get_or, pos, rules}
 use Rattle.rules.specs.Limits.{stack_depth}
-use Rattle.words.proofs.Tables.{Filled, filled_none, filled_more}
-use Rattle.registers.proofs.ValueLaws.{values_fit, behind_filled, behind_law}
+use Rattle.registers.proofs.ValueLaws.{behind_filled, behind_law}
 use Rattle.registers.proofs.values.behind_first.Goals as goal
 use Rattle.registers.proofs.values.behind_first.Goals.{Start}
 

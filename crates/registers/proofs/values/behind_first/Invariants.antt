@@ -1,8 +1,7 @@
 -- `behind_first` puts each value one cell back. The invariant: the first k are the next ones, and the last cell is still zero. Assumes
-use Rattle.std.proofs.Common.{◌≡◌, refl, ap, ◌∙◌, ℕ, ◌+◌, ◌-◌, ◌≤◌, arith, length, get_or, get_or-set_other, pos, to_z-of_z, rules}
+use Rattle.std.proofs.Common.{◌≡◌, ℕ, ◌+◌, ◌-◌, ◌≤◌, get_or, pos}
 use Rattle.rules.specs.Limits.{stack_depth}
-use Rattle.words.proofs.Tables.{Filled, filled_none, filled_more}
-use Rattle.registers.proofs.ValueLaws.{values_fit, behind_filled, behind_law}
+use Rattle.words.proofs.Tables.{Filled}
 use Rattle.registers.proofs.values.behind_first.Given as goal
 
 abbrev pub invariant-loop-k : goal.invariant-loop-k

@@ -1,8 +1,7 @@
 -- `in_front` puts v, then each value one cell on. The invariant: the first k are v and what stood in front of them. Assumes nothing.
-use Rattle.std.proofs.Common.{refl, ◌∙◌, ◌∷◌, ℕ, ◌-◌, ◌≤◌, ◌<◌, arith, get_or, replicate, pos, w32, to_z, to_z-of_z, rules}
+use Rattle.std.proofs.Common.{◌∷◌, ℕ, ◌-◌, ◌≤◌, ◌<◌, get_or, pos}
 use Rattle.rules.specs.Limits.{stack_depth}
-use Rattle.words.proofs.Tables.{Filled, filled_none, filled_more, filled_all}
-use Rattle.registers.proofs.ValueLaws.{values_fit, front_next, front_law, front_is}
+use Rattle.words.proofs.Tables.{Filled}
 use Rattle.registers.proofs.values.in_front.Given as goal
 
 abbrev pub invariant-loop-k : goal.invariant-loop-k

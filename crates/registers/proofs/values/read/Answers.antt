@@ -1,9 +1,6 @@
 -- `values::read` fills the cells one after the other. The invariant: the first k are those of the memory. Assumes nothing.
-use Rattle.std.proofs.Common.{refl, ◌∙◌, ℕ, ◌+◌, ◌-◌, ◌*◌, ◌≤◌, arith, pos, w32, to_z, to_z-of_z, rules}
-use Rattle.rules.specs.Limits.{stack_depth}
-use Rattle.rules.specs.Bytes.{number_at}
-use Rattle.rules.specs.Layout.{value_size}
-use Rattle.words.proofs.Tables.{Filled, filled_none, filled_more, filled_all}
+use Rattle.std.proofs.Common.{arith}
+use Rattle.words.proofs.Tables.{filled_all}
 use Rattle.registers.specs.Registers.{values_at}
 use Rattle.registers.proofs.values.read.Goals as goal
 

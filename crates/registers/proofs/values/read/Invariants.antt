@@ -1,10 +1,9 @@
 -- `values::read` fills the cells one after the other. The invariant: the first k are those of the memory. Assumes nothing.
-use Rattle.std.proofs.Common.{refl, ◌∙◌, ℕ, ◌+◌, ◌-◌, ◌*◌, ◌≤◌, arith, pos, w32, to_z, to_z-of_z, rules}
+use Rattle.std.proofs.Common.{ℕ, ◌+◌, ◌-◌, ◌*◌, ◌≤◌, pos, w32, to_z}
 use Rattle.rules.specs.Limits.{stack_depth}
 use Rattle.rules.specs.Bytes.{number_at}
 use Rattle.rules.specs.Layout.{value_size}
-use Rattle.words.proofs.Tables.{Filled, filled_none, filled_more, filled_all}
-use Rattle.registers.specs.Registers.{values_at}
+use Rattle.words.proofs.Tables.{Filled}
 use Rattle.registers.proofs.values.read.Given as goal
 
 abbrev pub invariant-loop-k : goal.invariant-loop-k

@@ -1,5 +1,5 @@
 -- `values::write` stores the values one after the other. The invariant: the first k are written. Assumes nothing.
-use Rattle.std.proofs.Common.{◌≡◌, refl, ◌∙◌, List, ℕ, ◌+◌, ◌-◌, ◌*◌, ◌≤◌, ◌<◌, arith, pos, length, get_or, take, take_all, w32, of_z, SFits, to_z-of_z, rules}
+use Rattle.std.proofs.Common.{◌≡◌, refl, ◌∙◌, List, ℕ, ◌+◌, ◌*◌, ◌<◌, arith, pos, length, get_or, take, w32, of_z, SFits, to_z-of_z, rules}
 use Rattle.rules.specs.Limits.{stack_depth}
 use Rattle.rules.specs.Bytes.{bytes_of, flat}
 use Rattle.rules.specs.State.{Value}

@@ -1,13 +1,9 @@
 -- `values::write` stores the values one after the other. The invariant: the first k are written. Assumes nothing.
-use Rattle.std.proofs.Common.{◌≡◌, refl, ◌∙◌, List, ℕ, ◌+◌, ◌-◌, ◌*◌, ◌≤◌, ◌<◌, arith, pos, length, get_or, take, take_all, w32, of_z, SFits, to_z-of_z, rules}
+use Rattle.std.proofs.Common.{◌≡◌, ◌-◌, ◌≤◌, length, take}
 use Rattle.rules.specs.Limits.{stack_depth}
-use Rattle.rules.specs.Bytes.{bytes_of, flat}
-use Rattle.rules.specs.State.{Value}
-use Rattle.rules.specs.Layout.{value_size, value_bytes}
+use Rattle.rules.specs.Bytes.{flat}
+use Rattle.rules.specs.Layout.{value_bytes}
 use Rattle.words.specs.Parts.{put_at}
-use Rattle.words.proofs.Pieces.{put_more}
-use Rattle.keeping.proofs.LayoutLaws.{length_value}
-use Rattle.registers.proofs.ValueLaws.{moved, values_fit}
 use Rattle.registers.proofs.values.write.Given as goal
 
 abbrev pub invariant-loop-k : goal.invariant-loop-k

@@ -1,8 +1,7 @@
 -- The steps one after the other. The invariant: those made so far are the steps of the budget used so far. Assumes nothing.
-use Rattle.std.proofs.Common.{◌≡◌, refl, ◌-◌, ◌≤◌, arith, length, rules}
+use Rattle.std.proofs.Common.{◌≡◌, ◌-◌, ◌≤◌, length}
 use Rattle.rules.specs.Layout.{view}
-use Rattle.keeping.proofs.Memories.{memory_length}
-use Rattle.runner.proofs.Making.{MadeSoFar, none_yet, memory_sound, stopped, ended, position_in_range, one_more}
+use Rattle.runner.proofs.Making.{MadeSoFar}
 use Rattle.runner.proofs.running.make_steps.Given as goal
 
 abbrev pub invariant-loop-made : goal.invariant-loop-made

@@ -1,6 +1,5 @@
 -- run: 24, 1, 25, or the steps and the verdict. Assumes nothing.
-use Rattle.std.proofs.Common.{sym, ◌∙◌, arith, rules}
-use mir.Facts.{Fits-of_lt}
+use Rattle.std.proofs.Common.{sym, ◌∙◌}
 use Rattle.keeping.proofs.Memories.{memory_length}
 use Rattle.machine.proofs.FirstRows.{sound_so}
 use Rattle.runner.proofs.RunAnswers.{left_sound, run_refused, start_over, ran}

@@ -1,9 +1,8 @@
 -- The ends are passed over as many at a time as one look shows. Assumes nothing.
-use Rattle.std.proofs.Common.{◌+◌, ◌-◌, ◌≤◌, arith, rules}
+use Rattle.std.proofs.Common.{◌-◌, ◌≤◌}
 use Rattle.rules.specs.Limits.{record_count, position_count}
 use Rattle.rules.specs.Layout.{view}
 use Rattle.runner.specs.Runs.{PassedTo}
-use Rattle.runner.proofs.Search.{not_at, nothing_passed, passed_more}
 use Rattle.runner.proofs.searching.next_pair.Given as goal
 
 abbrev pub invariant-loop-p : goal.invariant-loop-p

@@ -1,10 +1,7 @@
 -- The records are looked at one after the other. Assumes nothing.
-use Rattle.std.proofs.Common.{◌-◌, rules}
-use Rattle.rules.specs.Limits.{record_count}
 use Rattle.rules.specs.Layout.{view}
 use Rattle.stepping.proofs.Steps.{memory_sized}
-use Rattle.runner.specs.Runs.{PassedTo}
-use Rattle.runner.proofs.Search.{record_idle, nothing_passed, passed_one}
+use Rattle.runner.proofs.Search.{record_idle, passed_one}
 use borrow.Enum.Refused.{opened}
 use Rattle.runner.proofs.searching.next_running.Goals as goal
 

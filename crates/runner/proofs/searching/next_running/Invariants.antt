@@ -1,10 +1,8 @@
 -- The records are looked at one after the other. Assumes nothing.
-use Rattle.std.proofs.Common.{◌-◌, rules}
+use Rattle.std.proofs.Common.{◌-◌}
 use Rattle.rules.specs.Limits.{record_count}
 use Rattle.rules.specs.Layout.{view}
-use Rattle.stepping.proofs.Steps.{memory_sized}
 use Rattle.runner.specs.Runs.{PassedTo}
-use Rattle.runner.proofs.Search.{record_idle, nothing_passed, passed_one}
 use Rattle.runner.proofs.searching.next_running.Given as goal
 
 abbrev pub invariant-loop-p : goal.invariant-loop-p

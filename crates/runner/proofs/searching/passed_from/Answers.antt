@@ -1,5 +1,5 @@
 -- The queue of the end itself is looked at, then that of its partner. Assumes nothing.
-use Rattle.std.proofs.Common.{◌≡◌, sym, ◌∙◌, subst, false, ℕ, ◌+◌, ◌<◌, arith, rules}
+use Rattle.std.proofs.Common.{◌≡◌, sym, ◌∙◌, subst, false, ℕ, ◌+◌, ◌<◌, arith}
 use Rattle.rules.specs.Limits.{end_count}
 use Rattle.rules.specs.State.{State, end_at, end_or, partner_of}
 use Rattle.rules.specs.Refusal.{is_done}

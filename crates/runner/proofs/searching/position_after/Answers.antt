@@ -1,5 +1,5 @@
 -- One further, or 0 after the last. Assumes nothing.
-use Rattle.std.proofs.Common.{arith, rules}
+use Rattle.std.proofs.Common.{arith}
 use Rattle.rules.specs.Run.{next_position}
 use Rattle.runner.proofs.searching.position_after.Goals as goal
 

@@ -1,10 +1,5 @@
 -- From candidate to candidate. The invariant: the memory is as it was, and no position passed over can step. Assumes nothing.
-use Rattle.std.proofs.Common.{◌≡◌, refl, sym, ap, ◌∙◌, subst, List, ℕ, ◌+◌, ◌-◌, arith, length, rules}
-use Rattle.rules.specs.Limits.{position_count}
-use Rattle.rules.specs.Layout.{view}
-use Rattle.keeping.specs.Demand3.{SoundMemory}
-use Rattle.runner.specs.Runs.{PassedTo}
-use Rattle.runner.proofs.Search.{passed_then, none_found, found_here, not_here}
+use Rattle.runner.proofs.Search.{none_found, found_here}
 use Rattle.runner.proofs.searching.step_between.Goals as goal
 
 pub returns-in-Done : goal.returns-in-Done

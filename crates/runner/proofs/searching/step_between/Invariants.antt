@@ -1,10 +1,8 @@
 -- From candidate to candidate. The invariant: the memory is as it was, and no position passed over can step. Assumes nothing.
-use Rattle.std.proofs.Common.{◌≡◌, refl, sym, ap, ◌∙◌, subst, List, ℕ, ◌+◌, ◌-◌, arith, length, rules}
+use Rattle.std.proofs.Common.{◌≡◌, ◌-◌}
 use Rattle.rules.specs.Limits.{position_count}
 use Rattle.rules.specs.Layout.{view}
-use Rattle.keeping.specs.Demand3.{SoundMemory}
 use Rattle.runner.specs.Runs.{PassedTo}
-use Rattle.runner.proofs.Search.{passed_then, none_found, found_here, not_here}
 use Rattle.runner.proofs.searching.step_between.Given as goal
 
 abbrev pub invariant-loop-p : goal.invariant-loop-p

@@ -1,13 +1,12 @@
 -- From the position up to the last one, then from the first one up to it. Assumes nothing.
-use Rattle.std.proofs.Common.{sym, ap, ◌∙◌, subst, ◌-◌, arith, length, rules}
+use Rattle.std.proofs.Common.{sym, ◌∙◌, ◌-◌}
 use Rattle.rules.specs.Limits.{position_count}
 use Rattle.rules.specs.Run.{first_of}
 use Rattle.rules.specs.Layout.{view}
 use Rattle.rules.specs.Promise.{Promise}
-use Rattle.keeping.specs.Demand3.{SoundMemory}
 use Rattle.runner.specs.declared.searching.Stepped.TheVariants.{Nowhere}
 use Rattle.runner.specs.Runs.{stepped_by, memory_by}
-use Rattle.runner.proofs.Search.{made_above, unmoved, made_below}
+use Rattle.runner.proofs.Search.{made_above, made_below}
 use Rattle.runner.proofs.searching.step_from.Goals as goal
 use Rattle.runner.proofs.searching.step_from.Goals.{In-Nowhere}
 

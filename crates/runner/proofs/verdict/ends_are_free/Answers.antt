@@ -1,5 +1,4 @@
 -- One look at the word of free ends. Assumes nothing.
-use Rattle.std.proofs.Common.{rules}
 use Rattle.rules.specs.Layout.{view}
 use Rattle.stepping.proofs.Steps.{memory_sized}
 use Rattle.runner.proofs.Verdicts.{word_tells}

@@ -1,5 +1,5 @@
 -- Spent, finished or stuck. Assumes nothing.
-use Rattle.std.proofs.Common.{sym, ◌∙◌, rules}
+use Rattle.std.proofs.Common.{sym, ◌∙◌}
 use Rattle.rules.specs.Layout.{view}
 use Rattle.runner.proofs.Verdicts.{is_spent, is_finished, is_stuck}
 use Rattle.runner.proofs.verdict.verdict_of.Goals as goal

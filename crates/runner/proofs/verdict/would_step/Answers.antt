@@ -1,5 +1,5 @@
 -- The copy is the memory, so its step is the memory's. Assumes nothing.
-use Rattle.std.proofs.Common.{◌≡◌, sym, ap, ◌∙◌, subst, List, ℕ, arith, length, rules}
+use Rattle.std.proofs.Common.{◌≡◌, sym, ap, ◌∙◌, subst, List, ℕ, arith, length}
 use Rattle.rules.specs.Run.{next_step}
 use Rattle.rules.specs.Layout.{state_size, view}
 use Rattle.words.proofs.Parts.{put_all}

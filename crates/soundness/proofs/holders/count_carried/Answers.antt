@@ -1,11 +1,11 @@
 -- `count_carried` adds one for each of a split's two ends, and nothing else. Assumes nothing.
-use Rattle.std.proofs.Common.{refl, ℕ, ◌+◌, arith, rules}
+use Rattle.std.proofs.Common.{ℕ, ◌+◌, arith}
 use Rattle.rules.specs.Limits.{end_count}
 use Rattle.rules.specs.Count.{δ}
 use Rattle.rules.specs.Sound.{in_last}
 use Rattle.soundness.specs.Lasts.{last_meaning}
 use Rattle.soundness.specs.Counts.{places_in_all, Added}
-use Rattle.soundness.proofs.Counting.{added_nothing, added_one, added_both, added_as, added_below, one_few}
+use Rattle.soundness.proofs.Counting.{added_one, added_both, added_as, added_below, one_few}
 use Rattle.soundness.proofs.Standing.{split_within, split_counts}
 use Rattle.soundness.proofs.holders.count_carried.Goals as goal
 use Rattle.soundness.proofs.holders.count_carried.Goals.{After-add_one}

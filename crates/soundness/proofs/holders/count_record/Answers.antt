@@ -1,5 +1,5 @@
 -- `count_record` counts the slots of a record in use. Assumes nothing.
-use Rattle.std.proofs.Common.{ℕ, arith, rules}
+use Rattle.std.proofs.Common.{ℕ, arith}
 use Rattle.rules.specs.Limits.{end_count, slot_count}
 use Rattle.rules.specs.Sound.{held_in}
 use Rattle.rules.specs.Layout.{view_record}

@@ -1,5 +1,5 @@
 -- `count_slot` adds nothing for an empty slot, one for the end in another. Assumes nothing.
-use Rattle.std.proofs.Common.{ℕ, arith, rules}
+use Rattle.std.proofs.Common.{ℕ, arith}
 use Rattle.rules.specs.Limits.{end_count}
 use Rattle.rules.specs.Sound.{in_slot}
 use Rattle.rules.specs.Layout.{view_optional}

@@ -1,12 +1,9 @@
 -- `count_slots` counts one slot after the other. The invariant: the first c are counted. Assumes nothing.
-use Rattle.std.proofs.Common.{◌≡◌, refl, ap, List, map, ℕ, ◌+◌, ◌-◌, ◌≤◌, arith, length, get_or, take_all, leb-true, rules}
+use Rattle.std.proofs.Common.{refl, ◌+◌, arith, get_or, leb-true}
 use Rattle.rules.specs.Limits.{end_count, slot_count}
-use Rattle.rules.specs.Count.{total}
-use Rattle.rules.specs.Sound.{in_slot}
-use Rattle.rules.specs.Layout.{view_optional}
 use Rattle.rules.proofs.TestLaws.{all_at}
 use Rattle.canonical.specs.Canonical.{slot_fits}
-use Rattle.soundness.specs.Counts.{places_in_all, Added}
+use Rattle.soundness.specs.Counts.{places_in_all}
 use Rattle.soundness.proofs.Counting.{added_none, added_both, added_as, added_below}
 use Rattle.soundness.proofs.Standing.{in_first, first_none, first_more, first_few}
 use Rattle.soundness.proofs.holders.count_slots.Goals as goal

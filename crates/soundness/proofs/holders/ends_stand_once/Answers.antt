@@ -1,9 +1,9 @@
 -- `ends_stand_once` looks at one end after the other, with its count. The invariant: the first e pass. Assumes nothing.
-use Rattle.std.proofs.Common.{◌≡◌, true, ◌-◌, ◌≤◌, arith, rules, ap, not}
+use Rattle.std.proofs.Common.{◌≡◌, arith, ap, not}
 use Rattle.rules.specs.Limits.{end_count}
-use Rattle.rules.specs.SoundTest.{every, places_test}
+use Rattle.rules.specs.SoundTest.{places_test}
 use Rattle.rules.specs.Layout.{view}
-use Rattle.canonical.proofs.Tests.{every_none, reached}
+use Rattle.canonical.proofs.Tests.{every_none}
 use Rattle.soundness.proofs.Standing.{end_canonical, places_test_lem}
 use Rattle.canonical.proofs.Tests.{turn_fails, turn_passes}
 use Rattle.soundness.proofs.holders.ends_stand_once.Goals as goal

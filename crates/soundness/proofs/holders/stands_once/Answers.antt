@@ -1,10 +1,10 @@
 -- `stands_once` adds whether the end is given up, and asks for one place where it is in use and for none where it is free. Assumes nothing.
-use Rattle.std.proofs.Common.{◌≡◌, sym, ap, ◌∙◌, arith, rules}
+use Rattle.std.proofs.Common.{◌≡◌, sym, ap, ◌∙◌}
 use Rattle.rules.specs.Sound.{gives_up, given_up}
-use Rattle.rules.specs.State.{end_at, last_of}
+use Rattle.rules.specs.State.{end_at}
 use Rattle.rules.specs.Layout.{view}
 use Rattle.soundness.proofs.Partners.{free_is}
-use Rattle.soundness.proofs.Standing.{gives_few, once_free, once_used}
+use Rattle.soundness.proofs.Standing.{once_free, once_used}
 use Rattle.soundness.proofs.holders.stands_once.Goals as goal
 use Rattle.soundness.proofs.holders.stands_once.Goals.{After-given_up}
 

@@ -1,5 +1,5 @@
 -- `last_in` goes by the cell's kind. Assumes nothing.
-use Rattle.std.proofs.Common.{arith, rules}
+use Rattle.std.proofs.Common.{arith}
 use Rattle.soundness.proofs.Finals.{split_ends_is, says_split, says_close, wait_record, says_wait, says_nothing}
 use Rattle.soundness.proofs.lasts.last_in.Goals as goal
 

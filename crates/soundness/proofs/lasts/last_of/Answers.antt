@@ -1,5 +1,5 @@
 -- `last_of` reads the last of the cells in use. Assumes nothing.
-use Rattle.std.proofs.Common.{◌≡◌, refl, sym, ap, ◌∙◌, true, ℕ, ◌+◌, ◌-◌, ◌*◌, ◌≤◌, arith, rules}
+use Rattle.std.proofs.Common.{◌≡◌, refl, sym, ap, ◌∙◌, true, ℕ, ◌+◌, ◌-◌, ◌*◌, ◌≤◌, arith}
 use Rattle.rules.specs.Limits.{queue_depth}
 use Rattle.rules.specs.Bytes.{number_at}
 use Rattle.rules.specs.State.{end_at, last_of}

@@ -1,9 +1,9 @@
 -- `ends_are_paired` looks at one end after the other. The invariant: the first e pass. Assumes nothing.
-use Rattle.std.proofs.Common.{◌≡◌, true, ◌-◌, ◌≤◌, arith, rules, ap, not}
+use Rattle.std.proofs.Common.{arith, ap, not}
 use Rattle.rules.specs.Limits.{end_count}
-use Rattle.rules.specs.SoundTest.{every, paired_test}
+use Rattle.rules.specs.SoundTest.{paired_test}
 use Rattle.rules.specs.Layout.{view}
-use Rattle.canonical.proofs.Tests.{every_none, reached}
+use Rattle.canonical.proofs.Tests.{every_none}
 use Rattle.canonical.proofs.Tests.{turn_fails, turn_passes}
 use Rattle.soundness.proofs.pairs.ends_are_paired.Goals as goal
 

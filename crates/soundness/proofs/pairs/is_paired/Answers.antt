@@ -1,5 +1,5 @@
 -- `is_paired` follows the end to its partner and back. Assumes nothing.
-use Rattle.std.proofs.Common.{◌≡◌, sym, ap, ◌∙◌, false, ℕ, eqb, rules}
+use Rattle.std.proofs.Common.{◌≡◌, sym, ap, ◌∙◌, false, ℕ, eqb}
 use Rattle.canonical.specs.Canonical.{free_in}
 use Rattle.soundness.proofs.Partners.{free_is, paired_free, paired_itself, paired_over, paired_to_free, paired_back}
 use Rattle.soundness.proofs.pairs.is_paired.Goals as goal

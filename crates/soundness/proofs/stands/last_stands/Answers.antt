@@ -1,5 +1,4 @@
 -- `last_stands` asks a record that a wait names; another last item, or none, asks for nothing. Assumes nothing.
-use Rattle.std.proofs.Common.{rules}
 use Rattle.rules.specs.SoundTest.{stands_last}
 use Rattle.rules.specs.Layout.{view}
 use Rattle.soundness.specs.declared.lasts.Last.TheVariants.{Nothing, Split, Close}

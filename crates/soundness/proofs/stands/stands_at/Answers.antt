@@ -1,5 +1,5 @@
 -- `stands_at` reads the record's status and registers, and decodes the instruction at its place. Assumes nothing.
-use Rattle.std.proofs.Common.{◌≡◌, ap, ◌∙◌, rules}
+use Rattle.std.proofs.Common.{◌≡◌, ap, ◌∙◌}
 use Rattle.rules.specs.State.{RecordState, record_at}
 use Rattle.rules.specs.Sound.{RecordWithin}
 use Rattle.rules.specs.Layout.{view}

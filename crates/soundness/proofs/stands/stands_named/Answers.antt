@@ -1,5 +1,4 @@
 -- `stands_named` compares the slot and asks the own causes of a get, a fork and an hcase; no other instruction waits. Assumes nothing.
-use Rattle.std.proofs.Common.{rules}
 use Rattle.rules.specs.Numbers.{end_number}
 use Rattle.rules.specs.Instruction.{places_at}
 use Rattle.soundness.proofs.Instructions.{stands_get, stands_hcase, stands_fork, stands_other}

@@ -1,9 +1,9 @@
 -- `count_wait` adds one for the record that a wait names, and nothing else. Assumes nothing.
-use Rattle.std.proofs.Common.{refl, ℕ, arith, rules}
+use Rattle.std.proofs.Common.{ℕ, arith}
 use Rattle.rules.specs.Limits.{record_count}
 use Rattle.rules.specs.Sound.{named_by_last}
 use Rattle.soundness.specs.Lasts.{last_meaning}
-use Rattle.soundness.proofs.Counting.{added_nothing, added_one, added_as}
+use Rattle.soundness.proofs.Counting.{added_one, added_as}
 use Rattle.soundness.proofs.Waiting.{wait_within, wait_names}
 use Rattle.soundness.proofs.waits.count_wait.Goals as goal
 

@@ -1,10 +1,10 @@
 -- `records_are_named_rightly` looks at one record after the other, with its count. The invariant: the first i pass. Assumes nothing.
-use Rattle.std.proofs.Common.{◌≡◌, true, ◌-◌, ◌≤◌, arith, rules, ap, not}
+use Rattle.std.proofs.Common.{◌≡◌, arith, ap, not}
 use Rattle.rules.specs.Limits.{record_count}
-use Rattle.rules.specs.SoundTest.{every, waits_test}
+use Rattle.rules.specs.SoundTest.{waits_test}
 use Rattle.rules.specs.Layout.{view_registers, view}
 use Rattle.canonical.specs.Canonical.{record_part}
-use Rattle.canonical.proofs.Tests.{every_none, reached}
+use Rattle.canonical.proofs.Tests.{every_none}
 use Rattle.soundness.proofs.Waiting.{waits_test_lem}
 use Rattle.canonical.proofs.Tests.{turn_fails, turn_passes}
 use Rattle.soundness.proofs.waits.records_are_named_rightly.Goals as goal

@@ -1,12 +1,8 @@
 -- `records_are_named_rightly` looks at one record after the other, with its count. The invariant: the first i pass. Assumes nothing.
-use Rattle.std.proofs.Common.{◌≡◌, true, ◌-◌, ◌≤◌, arith, rules}
+use Rattle.std.proofs.Common.{◌≡◌, true, ◌-◌, ◌≤◌}
 use Rattle.rules.specs.Limits.{record_count}
 use Rattle.rules.specs.SoundTest.{every, waits_test}
-use Rattle.rules.specs.Layout.{view_registers, view}
-use Rattle.canonical.specs.Canonical.{record_part}
-use Rattle.canonical.proofs.Tests.{every_none, reached}
-use Rattle.soundness.proofs.Waiting.{waits_test_lem}
-use Rattle.canonical.proofs.Tests.{turn_fails, turn_passes}
+use Rattle.rules.specs.Layout.{view}
 use Rattle.soundness.proofs.waits.records_are_named_rightly.Given as goal
 
 abbrev pub invariant-loop-i : goal.invariant-loop-i

@@ -1,10 +1,9 @@
 -- `wait_counts` counts the waits of one queue after the other. The invariant: those of the first e are counted. Assumes nothing.
-use Rattle.std.proofs.Common.{ap, ℕ, ◌+◌, ◌-◌, ◌≤◌, arith, rules}
+use Rattle.std.proofs.Common.{ap, ℕ, ◌+◌, arith}
 use Rattle.rules.specs.Limits.{record_count, end_count}
 use Rattle.rules.specs.State.{end_at, last_of}
 use Rattle.rules.specs.Sound.{named_by_last, waits_naming}
 use Rattle.rules.specs.Layout.{view}
-use Rattle.soundness.specs.Counts.{Counted}
 use Rattle.soundness.proofs.Counting.{name_few, added_as, counted_none, counted_more, counted_as}
 use Rattle.soundness.proofs.Standing.{end_canonical}
 use Rattle.soundness.proofs.Waiting.{named_first, named_none, named_more, named_all}

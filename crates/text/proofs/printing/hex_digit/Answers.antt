@@ -1,5 +1,5 @@
 -- `hex_digit` is the digit. Assumes nothing.
-use Rattle.std.proofs.Common.{lt-ltb, le-ltb, rules}
+use Rattle.std.proofs.Common.{lt-ltb, le-ltb}
 use Rattle.text.specs.Written.{hex_digit}
 use Rattle.text.proofs.printing.hex_digit.Goals as goal
 

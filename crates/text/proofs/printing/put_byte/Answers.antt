@@ -1,5 +1,5 @@
 -- `put_byte` puts the two digits. Assumes nothing.
-use Rattle.std.proofs.Common.{refl, ◌∙◌, rules}
+use Rattle.std.proofs.Common.{refl, ◌∙◌}
 use Rattle.text.specs.Written.{hex_byte}
 use Rattle.text.proofs.printing.put_byte.Goals as goal
 

@@ -1,6 +1,5 @@
 -- `put_hex` puts one byte after the other. The invariant: the first i are put. Assumes nothing.
-use Rattle.std.proofs.Common.{◌≡◌, refl, ◌-◌, ◌≤◌, arith, length, take, rules}
-use Rattle.text.proofs.Hex.{hex_more, hex_written}
+use Rattle.std.proofs.Common.{◌≡◌, ◌-◌, ◌≤◌, length, take}
 use Rattle.rules.specs.Bytes.{flat}
 use Rattle.words.specs.Parts.{put_at}
 use Rattle.text.specs.Written.{hex_byte}

@@ -1,5 +1,5 @@
 -- `put_signed` puts a sign in front of a negative number. Assumes nothing.
-use Rattle.std.proofs.Common.{to_z-of_z, of_z, w32, ℤ, ℕ, ◌-◌, List, ◌∷◌, ◌++◌, ◌≡◌, sym, ap, ◌∙◌, rules}
+use Rattle.std.proofs.Common.{to_z-of_z, of_z, w32, ℤ, ℕ, ◌-◌, List, ◌∷◌, ◌++◌, ◌≡◌, sym, ap, ◌∙◌}
 use Rattle.text.proofs.Texts.{written_as, room_as, sign_text, minus_text, plus_text}
 use Rattle.rules.specs.Text.{decimal, signed_decimal}
 use Rattle.text.proofs.printing.put_signed.Goals as goal
@@ -7,20 +7,20 @@ use Rattle.text.proofs.printing.put_signed.Goals.{Else-n-lt0, Then-n-lt0}
 
 -- what is put for a negative number, and for any other
 signed-minus : (c : Then-n-lt0)
-    → 45 ∷ decimal (4294967296 - c.before.bits-bits.result) ≡ signed_decimal c.before.before.before.args.n
+    → 45 ∷ decimal (4294967296 - c.bits-bits.result) ≡ signed_decimal c.args.n
 signed-minus c =
     let at-start = c.before.before.before in
     let f = at-start.ranges.n in
-    let e = c.before.bits-bits.ensures ∙ ap (λ (z : ℤ). of_z w32 z) (to_z-of_z f) in
-    ap (λ (t : List ℕ). t ++ decimal (4294967296 - c.before.bits-bits.result)) (sym sign_text)
-    ∙ minus_text at-start.args.n c.before.bits-bits.result f (rw (to_z-of_z f) at c.if-n-lt0.true) e
+    let e = c.bits-bits.ensures ∙ ap (λ (z : ℤ). of_z w32 z) (to_z-of_z f) in
+    ap (λ (t : List ℕ). t ++ decimal (4294967296 - c.bits-bits.result)) (sym sign_text)
+    ∙ minus_text at-start.args.n c.bits-bits.result f (rw (to_z-of_z f) at c.if-n-lt0.true) e
 
-signed-plus : (c : Else-n-lt0) → decimal c.before.bits-bits.result ≡ signed_decimal c.before.before.before.args.n
+signed-plus : (c : Else-n-lt0) → decimal c.bits-bits.result ≡ signed_decimal c.args.n
 signed-plus c =
     let at-start = c.before.before.before in
     let f = at-start.ranges.n in
-    let e = c.before.bits-bits.ensures ∙ ap (λ (z : ℤ). of_z w32 z) (to_z-of_z f) in
-    plus_text at-start.args.n c.before.bits-bits.result (rw (to_z-of_z f) at c.if-n-lt0.false) e
+    let e = c.bits-bits.ensures ∙ ap (λ (z : ℤ). of_z w32 z) (to_z-of_z f) in
+    plus_text at-start.args.n c.bits-bits.result (rw (to_z-of_z f) at c.if-n-lt0.false) e
 
 pub put_lettered-requires : goal.put_lettered-requires
 put_lettered-requires c = room_as c.args.at _ _ c.args.out.now (signed-minus (goal.at.put_lettered-requires c).Then-n-lt0) c.requires

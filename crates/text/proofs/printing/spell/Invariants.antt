@@ -1,7 +1,7 @@
 -- `spell` stores one digit in front of the other. The invariant: what is left to spell stands in front of what is stored, and has room.
-use Rattle.std.proofs.Common.{◌≡◌, sym, ap, subst, ◌∙◌, ℕ, suc, ◌-◌, ◌^◌, ◌≤◌, ◌<◌, arith, length, drop, length-set, rules}
+use Rattle.std.proofs.Common.{◌≡◌, ◌^◌, ◌≤◌, ◌<◌, length, drop}
 use Rattle.rules.specs.Text.{decimal}
-use Rattle.text.proofs.Decimals.{digits_left, digits_all, spell_first, spell_next, some_left, less_left}
+use Rattle.text.proofs.Decimals.{digits_left}
 use Rattle.text.proofs.printing.spell.Given as goal
 
 abbrev pub invariant-loop-rest : goal.invariant-loop-rest

@@ -1,6 +1,5 @@
 -- `all_digits` looks at one byte after the other. The invariant: all are digits exactly if those behind the first i are. Assumes nothing.
-use Rattle.std.proofs.Common.{◌≡◌, refl, ◌-◌, ◌≤◌, arith, length, drop, rules}
-use Rattle.text.specs.Digits.{all_digits}
+use Rattle.std.proofs.Common.{arith}
 use Rattle.text.proofs.Words.{digits_wrong, digits_passed, digits_right}
 use Rattle.text.proofs.reading.all_digits.Goals as goal
 

@@ -1,7 +1,6 @@
 -- `all_digits` looks at one byte after the other. The invariant: all are digits exactly if those behind the first i are. Assumes nothing.
-use Rattle.std.proofs.Common.{◌≡◌, refl, ◌-◌, ◌≤◌, arith, length, drop, rules}
+use Rattle.std.proofs.Common.{◌≡◌, ◌-◌, ◌≤◌, length, drop}
 use Rattle.text.specs.Digits.{all_digits}
-use Rattle.text.proofs.Words.{digits_wrong, digits_passed, digits_right}
 use Rattle.text.proofs.reading.all_digits.Given as goal
 
 abbrev pub invariant-loop-i : goal.invariant-loop-i

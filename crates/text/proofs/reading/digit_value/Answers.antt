@@ -1,5 +1,5 @@
 -- `digit_value` is the value of the digit: its tests are those of the definition. Assumes nothing.
-use Rattle.std.proofs.Common.{lt-ltb, le-ltb, rules}
+use Rattle.std.proofs.Common.{lt-ltb, le-ltb}
 use Rattle.text.specs.Digits.{digit_value}
 use Rattle.text.proofs.reading.digit_value.Goals as goal
 

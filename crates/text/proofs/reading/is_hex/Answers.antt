@@ -1,5 +1,5 @@
 -- `is_hex` asks what the definition asks, in its order. Assumes nothing.
-use Rattle.std.proofs.Common.{◌∙◌, rules}
+use Rattle.std.proofs.Common.{◌∙◌}
 use Rattle.text.proofs.Hex.{hex_empty, hex_odd, hex_is}
 use Rattle.text.proofs.reading.is_hex.Goals as goal
 

@@ -1,6 +1,5 @@
 -- `length_before` looks at one byte after the other. The invariant: none of the first i is the one. Assumes nothing.
-use Rattle.std.proofs.Common.{◌≡◌, ◌+◌, ◌-◌, ◌≤◌, arith, length, drop, rules}
-use Rattle.text.specs.Digits.{length_before}
+use Rattle.std.proofs.Common.{arith}
 use Rattle.text.proofs.Words.{before_found, before_passed, before_none}
 use Rattle.text.proofs.reading.length_before.Goals as goal
 

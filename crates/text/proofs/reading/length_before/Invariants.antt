@@ -1,7 +1,6 @@
 -- `length_before` looks at one byte after the other. The invariant: none of the first i is the one. Assumes nothing.
-use Rattle.std.proofs.Common.{◌≡◌, ◌+◌, ◌-◌, ◌≤◌, arith, length, drop, rules}
+use Rattle.std.proofs.Common.{◌≡◌, ◌+◌, ◌-◌, ◌≤◌, length, drop}
 use Rattle.text.specs.Digits.{length_before}
-use Rattle.text.proofs.Words.{before_found, before_passed, before_none}
 use Rattle.text.proofs.reading.length_before.Given as goal
 
 abbrev pub invariant-loop-i : goal.invariant-loop-i

@@ -1,6 +1,5 @@
 -- `read_hex` joins two digits after the other. The invariant: the first i bytes are put. Assumes nothing.
-use Rattle.std.proofs.Common.{◌≡◌, refl, ◌+◌, ◌*◌, ◌-◌, ◌/◌, ◌≤◌, arith, length, take, rules}
-use Rattle.text.proofs.Hex.{digit_below, hex_digits, bytes_more, bytes_written}
+use Rattle.std.proofs.Common.{◌≡◌, ◌-◌, ◌/◌, ◌≤◌, length, take}
 use Rattle.words.specs.Parts.{put_at}
 use Rattle.text.specs.Digits.{hex_bytes}
 use Rattle.text.proofs.reading.read_hex.Given as goal

@@ -1,7 +1,6 @@
 -- `read_number` asks what the definition asks, in its order. Assumes nothing.
-use Rattle.std.proofs.Common.{sym, ◌∙◌, rules}
+use Rattle.std.proofs.Common.{sym, ◌∙◌}
 use Rattle.text.proofs.Words.{number_empty, number_other, number_is}
-use borrow.Author.Tests.{not-true, not-false}
 use Rattle.text.proofs.reading.read_number.Goals as goal
 
 pub returns-then-word-eq0 : goal.returns-then-word-eq0

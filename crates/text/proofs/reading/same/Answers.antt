@@ -1,6 +1,5 @@
 -- `same` compares one byte after the other. The invariant: the words are the same exactly if they are behind the first i. Assumes nothing.
-use Rattle.std.proofs.Common.{◌≡◌, refl, ◌-◌, ◌≤◌, arith, length, drop, rules}
-use Rattle.rules.specs.Calls.{same_bytes}
+use Rattle.std.proofs.Common.{arith}
 use Rattle.text.proofs.Words.{same_shorter, same_passed, same_other, same_all}
 use Rattle.text.proofs.reading.same.Goals as goal
 

@@ -1,7 +1,6 @@
 -- `same` compares one byte after the other. The invariant: the words are the same exactly if they are behind the first i. Assumes nothing.
-use Rattle.std.proofs.Common.{◌≡◌, refl, ◌-◌, ◌≤◌, arith, length, drop, rules}
+use Rattle.std.proofs.Common.{◌≡◌, ◌-◌, ◌≤◌, length, drop}
 use Rattle.rules.specs.Calls.{same_bytes}
-use Rattle.text.proofs.Words.{same_shorter, same_passed, same_other, same_all}
 use Rattle.text.proofs.reading.same.Given as goal
 
 abbrev pub invariant-loop-i : goal.invariant-loop-i

@@ -1,6 +1,5 @@
 -- `value` reads one digit after the other. The invariant: the rest behind n says what the word says. Assumes nothing.
-use Rattle.std.proofs.Common.{◌≡◌, refl, ◌-◌, ◌≤◌, arith, length, drop, rules}
-use Rattle.text.specs.Digits.{value_behind}
+use Rattle.std.proofs.Common.{arith}
 use Rattle.text.proofs.Words.{value_more, value_all, value_is, value_over}
 use Rattle.text.proofs.reading.value.Goals as goal
 

@@ -1,7 +1,6 @@
 -- `value` reads one digit after the other. The invariant: the rest behind n says what the word says. Assumes nothing.
-use Rattle.std.proofs.Common.{◌≡◌, refl, ◌-◌, ◌≤◌, arith, length, drop, rules}
+use Rattle.std.proofs.Common.{◌≡◌, ◌-◌, ◌≤◌, length, drop}
 use Rattle.text.specs.Digits.{value_behind}
-use Rattle.text.proofs.Words.{value_more, value_all, value_is, value_over}
 use Rattle.text.proofs.reading.value.Given as goal
 
 abbrev pub invariant-loop-i : goal.invariant-loop-i
