@@ -44,7 +44,8 @@ step_length name n number =
     omega (arith, length-append (name ++ decimal n) (number_line (text ": ") number), length-append name (decimal n))
 
 pub made_text_lem : (steps next : ℕ) (v : Verdict)
-    → text "run: 0 " ++ (decimal steps ++ (text " " ++ (decimal next ++ (text " " ++ verdict_text v ++ text "\n")))) ≡ made_text steps next v
+    → text "run: 0 " ++ (decimal steps ++ (text " " ++ (decimal next ++ (text " " ++ verdict_text v ++ text "\n")))) ≡ made_text steps
+    next v
 made_text_lem steps next v = simp append_assoc refl
 
 pub made_length : (steps next : ℕ) (v : Verdict)

@@ -20,7 +20,8 @@ use Rattle.rules.specs.Bytes.{bytes_of, number_at, flat, pad, pieces}
 use Rattle.rules.specs.State.{Datum, value, handle, Last, split_item, close_item, wait_item, EndState, free_end, used, queue_length}
 use Rattle.rules.specs.EndStep.{only_if}
 use Rattle.rules.specs.SoundTest.{all, datum_within, last_within, end_within}
-use Rattle.rules.specs.Layout.{cell_size, queue_size, partner_byte, datum_cell, last_cell, last_cells, queue_cells, queue_bytes, Queue, queue}
+use Rattle.rules.specs.Layout.{cell_size, queue_size, partner_byte, datum_cell, last_cell, last_cells, queue_cells, queue_bytes, Queue}
+use Rattle.rules.specs.Layout.{queue}
 use Rattle.rules.specs.Layout.{in_front, cell_kind, view_cell, view_cells, view_queue, view_end}
 use Rattle.rules.proofs.TestLaws.{both, left_of, right_of, all_true_read, all_true_write, true_is_not_false}
 use Rattle.words.specs.Parts.{Bytes}

@@ -15,7 +15,8 @@ use Rattle.rules.specs.Limits.{record_count, end_count, code_limit}
 use Rattle.rules.specs.Bytes.{bytes_of, number_at, flat, pad}
 use Rattle.rules.specs.State.{State, free_end, free_record, record_at, end_at, queue_length}
 use Rattle.rules.specs.SoundTest.{record_within, end_within, byte_within, within}
-use Rattle.rules.specs.Layout.{record_size, free_size, queue_size, records_at, free_at, partners_at, counts_at, queues_at, state_size, record_bytes}
+use Rattle.rules.specs.Layout.{record_size, free_size, queue_size, records_at, free_at, partners_at, counts_at, queues_at, state_size}
+use Rattle.rules.specs.Layout.{record_bytes}
 use Rattle.rules.specs.Layout.{free_word, partner_byte, queue_bytes, layout, view}
 use Rattle.rules.proofs.TestLaws.{left_of, right_of, both, all_at, all_from, every_at, all_true_read, all_true_write}
 use Rattle.words.specs.Parts.{Bytes}
@@ -46,7 +47,8 @@ record Sections (st : State) (m : List ℕ) : Type 0 where
 
 -- a memory by its sections
 in_sections : (m : List ℕ) → m ≡ take 2 m ++ (take code_limit (drop 2 m) ++ (take (record_size * record_count) (drop records_at m)
-    ++ (take free_size (drop free_at m) ++ (take end_count (drop partners_at m) ++ (take end_count (drop counts_at m) ++ drop queues_at m)))))
+    ++ (take free_size (drop free_at m) ++
+    (take end_count (drop partners_at m) ++ (take end_count (drop counts_at m) ++ drop queues_at m)))))
 in_sections m =
     let a = cut_at 0 2 m in
     let b = cut_at 2 code_limit m in
@@ -134,7 +136,8 @@ module _ (m : List ℕ) (b : Bytes m) (l : length m ≡ state_size) where
   unfolding end_test
   end_right e h t =
       rw (end_shown m e h)
-      (end_from (get_or m (partners_at + e) 0) (get_or m (counts_at + e) 0) (queue_part m e) (queue_bytes_are e) (queue_long e h) (free_in m e) t)
+      (end_from (get_or m (partners_at + e) 0) (get_or m (counts_at + e) 0) (queue_part m e) (queue_bytes_are e)
+      (queue_long e h) (free_in m e) t)
 
   right_end : (e : ℕ) → e < end_count → EndRight e → end_test m e ≡ true
   unfolding end_test

@@ -57,7 +57,8 @@ values_within (suc n) zero m b = refl
 values_within (suc n) (suc k) m b =
     let within = (sfits_to_z {w = w32} {n = number_at value_size (take value_size m) 0}
     (value_fits (take value_size m) (bytes_take value_size m b))).sfits in
-    both (lt-ltb (mag (view_value (take value_size m))) value_bound within) (values_within n k (drop value_size m) (bytes_drop value_size m b))
+    both (lt-ltb (mag (view_value (take value_size m))) value_bound within)
+    (values_within n k (drop value_size m) (bytes_drop value_size m b))
 
 length_view : (n k : ℕ) (m : List ℕ) → k ≤ n → length (view_values n k m) ≡ k
 unfolding view_values
@@ -136,7 +137,8 @@ module _ (s : ℕ) (g : Registers) where
   cells_long n vs = length_flat value_bytes value_size length_value (pad n (pos 0) vs)
       ∙ ap (λ (k : ℕ). value_size * k) (length_pad n (pos 0) vs)
 
-  stack_part : take (value_size * stack_depth) (drop stack_from (s ∷ registers_bytes g)) ≡ flat value_bytes (pad stack_depth (pos 0) g.stack)
+  stack_part : take (value_size * stack_depth) (drop stack_from (s ∷ registers_bytes g)) ≡ flat value_bytes
+      (pad stack_depth (pos 0) g.stack)
   unfolding registers_bytes
   stack_part =
       let slots = map optional (pad slot_count none g.slots) in

@@ -13,7 +13,8 @@ use Rattle.rules.specs.Limits.{record_count, end_count}
 use Rattle.rules.specs.Bytes.{number_at, pieces}
 use Rattle.rules.specs.State.{EndState, free_end, record_at, end_at}
 use Rattle.rules.specs.Slots.{low_bit, in_set}
-use Rattle.rules.specs.Layout.{record_size, free_size, queue_size, records_at, free_at, partners_at, counts_at, queues_at, free_word, view_status}
+use Rattle.rules.specs.Layout.{record_size, free_size, queue_size, records_at, free_at, partners_at, counts_at, queues_at, free_word}
+use Rattle.rules.specs.Layout.{view_status}
 use Rattle.rules.specs.Layout.{view_record, view_end, view_ends, view}
 use Rattle.words.specs.Parts.{Bytes}
 use Rattle.words.proofs.Pieces.{length_pieces, get_d_pieces}
@@ -33,7 +34,8 @@ length_ends zero w ps cs qs = refl
 length_ends (suc n) w ps cs qs = ap suc (length_ends n (w / 2) (drop 1 ps) (drop 1 cs) (drop queue_size qs))
 
 end_at_lem : (n w : ℕ) (ps cs qs : List ℕ) (e : ℕ) → e < n
-    → get_or (view_ends n w ps cs qs) e free_end ≡ view_end (in_set w e) (get_or ps e 0) (get_or cs e 0) (take queue_size (drop (queue_size * e) qs))
+    → get_or (view_ends n w ps cs qs) e free_end ≡ view_end (in_set w e) (get_or ps e 0) (get_or cs e 0)
+    (take queue_size (drop (queue_size * e) qs))
 unfolding view_ends in_set
 end_at_lem zero w ps cs qs e h = absurd (omega arith)
 end_at_lem (suc n) w ps cs qs zero h = refl
@@ -62,7 +64,8 @@ module _ (m : List ℕ) where
   pub records_shown : length (view m).records ≡ record_count
   unfolding view
   records_shown =
-      length-map (pieces record_count record_size (drop records_at m)) view_record ∙ length_pieces record_count record_size (drop records_at m)
+      length-map (pieces record_count record_size (drop records_at m)) view_record
+      ∙ length_pieces record_count record_size (drop records_at m)
 
   pub ends_shown : length (view m).ends ≡ end_count
   unfolding view
@@ -88,4 +91,10 @@ module _ (m : List ℕ) where
   unfolding view
   end_shown e h =
       end_at_lem end_count (number_at free_size (drop free_at m) 0) (drop partners_at m) (drop counts_at m) (drop queues_at m) e h
-      ∙ rw (number_drop free_size free_at m 0, get_or-drop partners_at m e 0, get_or-drop counts_at m e 0, drop-drop (queue_size * e) queues_at m)
+      ∙ rw (
+        number_drop free_size free_at m 0,
+        get_or-drop partners_at m e 0,
+        get_or-drop counts_at m e 0,
+        drop-drop
+            (queue_size * e) queues_at m,
+      )

@@ -80,7 +80,8 @@ module _ {A : Type 0} (test : A → Bool) where
   unfolding all
   all_none = refl
 
-  pub all_more : (l : List A) (i : ℕ) (d : A) → i < length l → all test (take (i + 1) l) ≡ only_if (all test (take i l)) (test (get_or l i d))
+  pub all_more : (l : List A) (i : ℕ) (d : A) → i < length l
+      → all test (take (i + 1) l) ≡ only_if (all test (take i l)) (test (get_or l i d))
   unfolding all
   all_more l i d h = rw (add-one i) (go l i h)
     where

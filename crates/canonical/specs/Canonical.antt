@@ -7,7 +7,8 @@ use Rattle.rules.specs.Bytes.{number_at, pieces}
 use Rattle.rules.specs.Slots.{in_set}
 use Rattle.rules.specs.EndStep.{only_if}
 use Rattle.rules.specs.SoundTest.{all, every, all_true}
-use Rattle.rules.specs.Layout.{value_size, cell_size, record_size, free_size, queue_size, records_at, free_at, partners_at, counts_at, queues_at}
+use Rattle.rules.specs.Layout.{value_size, cell_size, record_size, free_size, queue_size, records_at, free_at, partners_at, counts_at}
+use Rattle.rules.specs.Layout.{queues_at}
 use Rattle.rules.specs.Layout.{CellKind, no_cell, value_cell, handle_cell, split_cell, close_cell, wait_cell, cell_kind}
 
 -- the bytes from one place on up to another

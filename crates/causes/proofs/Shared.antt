@@ -54,12 +54,14 @@ in_parts ((k, false) ∷ rows) more a = in_parts rows more a
 -- ---- the rows 5 to 11, then 12 to 15
 
 module _ (st : State) (r next : ℕ) (g : Registers) (i : Instruction) where
-  own_first : answer_to st r next g i ≡ unless (own_causes g i) (unless (shared_causes st g i) (done (after st r next g (lowest_free st) i)))
+  own_first : answer_to st r next g i ≡ unless (own_causes g i)
+      (unless (shared_causes st g i) (done (after st r next g (lowest_free st) i)))
   unfolding answer_to
   own_first = in_parts (own_causes g i) (shared_causes st g i) _
 
   pub own_refused : (n : ℕ) → own_reply g i ≡ Refused n → answer_to st r next g i ≡ refused n
   own_refused n e = own_first ∙ one_holds (own_causes g i) _ n e
 
-  pub own_done : own_reply g i ≡ Done → answer_to st r next g i ≡ unless (shared_causes st g i) (done (after st r next g (lowest_free st) i))
+  pub own_done : own_reply g i ≡ Done
+      → answer_to st r next g i ≡ unless (shared_causes st g i) (done (after st r next g (lowest_free st) i))
   own_done e = own_first ∙ goes_on (own_causes g i) _ e

@@ -9,7 +9,8 @@ use lib.ListN.{length}
 use lib.Dec.{leb}
 use borrow.Author.Tests.{lt-ltb, le-ltb, le-leb, lt-leb, ne_eqb}
 use Rattle.rules.specs.Refusal.{Row, no_cause}
-use Rattle.rules.specs.Instruction.{Instruction, Name, Form, form, nothing_listed, form_in, form_of, forms, size_of, byte_at, instruction_at}
+use Rattle.rules.specs.Instruction.{Instruction, Name, Form, form, nothing_listed, form_in, form_of, forms, size_of, byte_at}
+use Rattle.rules.specs.Instruction.{instruction_at}
 use Rattle.rules.specs.Instruction.{Decoded, listed_count, too_few_listed, too_many_listed, place_after, decode_as, decode}
 
 -- ---- rows

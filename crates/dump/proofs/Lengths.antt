@@ -16,7 +16,8 @@ use Rattle.rules.specs.Layout.{view}
 use Rattle.keeping.specs.Demand3.{SoundMemory}
 use Rattle.text.proofs.Hex.{length_text}
 use Rattle.text.proofs.Shortness.{decimal_room, signed_short}
-use Rattle.dump.specs.Shown.{behind_commas, list_text, by_number, values_text, slot_text, slot_texts, slots_text, registers_text, record_text}
+use Rattle.dump.specs.Shown.{behind_commas, list_text, by_number, values_text, slot_text, slot_texts, slots_text, registers_text}
+use Rattle.dump.specs.Shown.{record_text}
 use Rattle.dump.specs.Shown.{datum_text, last_text, last_texts, queue_texts, end_text, code_text, records_text, ends_text, state_text}
 use Rattle.dump.specs.Pieces.{item_texts}
 use Rattle.dump.specs.Rooms.{number_room, signed_room, values_room, slot_room, slots_room, record_room, item_room, end_room, dump_room}
@@ -82,7 +83,8 @@ values_short (v ∷ vs) h = (signed_short v (record { sfits = h 0 }), values_sho
 values_room_lem : (vs : List Value) → length vs ≤ stack_depth → ((i : ℕ) → ValueWithin (get_or vs i (pos 0)))
     → length (values_text vs) ≤ values_room
 unfolding values_text
-values_room_lem vs l h = list_short signed_room 15 (map signed_decimal vs) (values_short vs h) (omega (arith, l, length-map vs signed_decimal))
+values_room_lem vs l h = list_short signed_room 15 (map signed_decimal vs) (values_short vs h)
+    (omega (arith, l, length-map vs signed_decimal))
 
 slot_room_lem : (c e : ℕ) → length (slot_text c e) ≤ slot_room
 unfolding slot_text text

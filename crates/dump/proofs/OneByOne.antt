@@ -166,7 +166,8 @@ module _ {A : Type 0} {line : ℕ → A → List ℕ} {count : ℕ} {xs : List A
 
   module _ {out : List ℕ} {next k : ℕ} (stand : LinesTo line count xs out₀ at out next k) where
     -- room for the line that comes
-    pub line_room : (d : A) → k < count → at + length (by_number line 0 xs) ≤ length out₀ → next + length (line k (get_or xs k d)) ≤ length out
+    pub line_room : (d : A) → k < count → at + length (by_number line 0 xs) ≤ length out₀
+        → next + length (line k (get_or xs k d)) ≤ length out
     line_room d h room =
         let inside : k < length xs = omega (arith, stand.so_many) in
         let front = by_number line 0 (take k xs) ++ line k (get_or xs k d) in

@@ -10,7 +10,8 @@ use Rattle.rules.specs.Text.{text}
 use Rattle.rules.proofs.Computing.{computing}
 use Rattle.rules.proofs.FullRun.{code}
 use Rattle.text.specs.Written.{hex_digit, hex_byte, hex_text}
-use Rattle.dump.specs.Shown.{behind_commas, list_text, by_number, values_text, slot_text, slot_texts, slots_text, registers_text, record_text}
+use Rattle.dump.specs.Shown.{behind_commas, list_text, by_number, values_text, slot_text, slot_texts, slots_text, registers_text}
+use Rattle.dump.specs.Shown.{record_text}
 use Rattle.dump.specs.Shown.{datum_text, last_text, last_texts, queue_texts, end_text, code_text, records_text, ends_text, state_text}
 
 pub record_is : record_text 7 (waiting (registers 17 (pos 4 ∷ negsuc 4 ∷ []) (pos 1 ∷ []) (some 3 ∷ none ∷ some 15 ∷ none ∷ [])))

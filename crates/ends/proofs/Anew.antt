@@ -109,7 +109,8 @@ moved_up_lem xs h =
     let c = pad queue_depth 0 xs in
     let past : get_or c queue_depth 0 ≡ 0 = get_or-eq_default c 0 (omega (arith, length_pad queue_depth 0 xs)) in
     let short : length (drop 1 xs) ≤ queue_depth = rw (length-drop 1 xs) (omega arith) in
-    ap (λ (n : ℕ). get_or c 1 0 ∷ get_or c 2 0 ∷ get_or c 3 0 ∷ get_or c 4 0 ∷ get_or c 5 0 ∷ get_or c 6 0 ∷ get_or c 7 0 ∷ n ∷ []) (sym past)
+    ap (λ (n : ℕ). get_or c 1 0 ∷ get_or c 2 0 ∷ get_or c 3 0 ∷ get_or c 4 0 ∷ get_or c 5 0 ∷ get_or c 6 0 ∷ get_or c 7 0 ∷ n ∷ [])
+    (sym past)
     ∙ table_is 0 queue_depth (λ (k : ℕ). get_or c (suc k) 0) (pad queue_depth 0 (drop 1 xs)) (length_pad queue_depth 0 (drop 1 xs))
     (λ i l.
     let next : 1 + i ≡ suc i = omega arith in

@@ -52,7 +52,8 @@ module _ (st : State) (z : Sized st) (e : ℕ) (h : e < end_count) {m : List ℕ
       (counts_set st.ends e y ∙ ap (set (counts_of st.ends) e) count) (cell_changed z e y k cell h l cells)
 
   -- the cells behind the first, and the count
-  pub take_written : EndFits (end_at st e) → (k : ℕ) (c : List ℕ) {m₁ m₂ : List ℕ} → k ≡ queue_length (end_at st e) → c ≡ cells_of (end_at st e)
+  pub take_written : EndFits (end_at st e) → (k : ℕ) (c : List ℕ) {m₁ m₂ : List ℕ}
+      → k ≡ queue_length (end_at st e) → c ≡ cells_of (end_at st e)
       → m₁ ≡ with_cells m e (moved_up c) → m₂ ≡ with_count m₁ e (k - 1) → m₂ ≡ layout (set_end st e (behind_head (end_at st e)))
   take_written f k c q cs e₁ e₂ =
       let x = end_at st e in
@@ -78,7 +79,8 @@ module _ (st : State) (z : Sized st) (e : ℕ) (h : e < end_count) {m : List ℕ
       (cell_changed z e free_end 0 0 h first (cells_freed (end_at st e) d))
 
   -- the word of free ends, and the partner: a free end's count and cells are those of an empty queue
-  pub fresh_written : end_at st e ≡ free_end → (partner word : ℕ) {m₁ m₂ : List ℕ} → word ≡ free_word (set_end st e (fresh_end partner)).ends
+  pub fresh_written : end_at st e ≡ free_end → (partner word : ℕ) {m₁ m₂ : List ℕ}
+      → word ≡ free_word (set_end st e (fresh_end partner)).ends
       → m₁ ≡ with_word m word → m₂ ≡ with_partner_byte m₁ e partner → m₂ ≡ layout (set_end st e (fresh_end partner))
   unfolding partner_byte cells_of queue_cells last_cells
   fresh_written f partner word w e₁ e₂ =

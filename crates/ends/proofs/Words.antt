@@ -194,7 +194,8 @@ word_taken (y ∷ l) (suc e) x h u =
     ∙ rw (word_taken l e x (omega arith) u, (bit_laws (is_free_end y)).4, word_cons y (set l e x)) (omega arith))
 
 -- an end that stays free, or in use, changes nothing
-pub word_kept : (l : List EndState) (e : ℕ) (x : EndState) → is_free_end x ≡ is_free_end (get_or l e free_end) → free_word (set l e x) ≡ free_word l
+pub word_kept : (l : List EndState) (e : ℕ) (x : EndState) → is_free_end x ≡ is_free_end (get_or l e free_end)
+    → free_word (set l e x) ≡ free_word l
 word_kept [] e x h = refl
 word_kept (y ∷ l) zero x h = rw (word_cons x l, word_cons y l, h)
 word_kept (y ∷ l) (suc e) x h = rw (word_cons y (set l e x), word_cons y l, word_kept l e x h)

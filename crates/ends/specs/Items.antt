@@ -5,7 +5,8 @@ use Rattle.std.specs.Int.{w32}
 use Rattle.std.proofs.Common.{to_z}
 use Rattle.rules.specs.Numbers.{end_number, record_number}
 use Rattle.rules.specs.State as rules
-use Rattle.rules.specs.Layout.{datum_cell, last_cell, CellKind, no_cell, value_cell, handle_cell, split_cell, close_cell, wait_cell, cell_kind}
+use Rattle.rules.specs.Layout.{datum_cell, last_cell, CellKind, no_cell, value_cell, handle_cell, split_cell, close_cell, wait_cell}
+use Rattle.rules.specs.Layout.{cell_kind}
 use Rattle.rules.specs.Sound.{DatumWithin}
 use Rattle.keeping.proofs.ViewLaws.{LastFits}
 use Rattle.ends.specs.declared.item.Item.{Item}

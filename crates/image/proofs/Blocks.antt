@@ -47,7 +47,12 @@ data_blocks (suc n) bytes h =
     let size : length (take data_size bytes) ≡ data_size = length-take-le data_size bytes (omega arith) in
     let more : length (drop data_size bytes) ≡ data_size * n = rw length-drop (omega arith) in
     let rest : List ℕ = blocks n (drop data_size bytes) in
-    rw (block_front (take data_size bytes) rest size, block_behind (take data_size bytes) rest size, data_blocks n (drop data_size bytes) more)
+    rw (
+      block_front (take data_size bytes) rest size,
+      block_behind (take data_size bytes) rest size,
+      data_blocks
+          n (drop data_size bytes) more,
+    )
     (take-append-drop data_size bytes)
 
 pub checks_blocks : (n : ℕ) (bytes : List ℕ) → length bytes ≡ data_size * n → any_check_wrong n (blocks n bytes) ≡ false

@@ -58,7 +58,8 @@ unfolding any_check_wrong
 wrong_one m n e = rw (e, any_check_wrong)
 
 -- no block is wrong: neither the first nor one behind it
-pub right_all : (m : List ℕ) (n : ℕ) → any_check_wrong (suc n) m ≡ false → (is_right m ≡ true) × (any_check_wrong n (drop block_size m) ≡ false)
+pub right_all : (m : List ℕ) (n : ℕ) → any_check_wrong (suc n) m ≡ false → (is_right m ≡ true)
+    × (any_check_wrong n (drop block_size m) ≡ false)
 right_all m n e = go (is_right m) refl
   where
     go : (b : Bool) → is_right m ≡ b → (is_right m ≡ true) × (any_check_wrong n (drop block_size m) ≡ false)

@@ -91,7 +91,8 @@ module _ (n : ℕ) (image : List ℕ) (size : block_size * n ≡ length image) (
     unfolding code_in
     code_size = length-take-le (code_length image) (drop head_size (image_data image)) (rw (length-drop, data_size_lem) (omega arith))
 
-    pub code_part : (k j w : ℕ) → k < n → j + w ≤ code_length image → data_size * k ≤ head_size + j → head_size + j + w ≤ data_size * (k + 1)
+    pub code_part : (k j w : ℕ) → k < n → j + w ≤ code_length image → data_size * k ≤ head_size + j
+        → head_size + j + w ≤ data_size * (k + 1)
         → take w (drop j (code_in image)) ≡ take w (drop (head_size + j + 2 * k) image)
     unfolding code_in
     code_part k j w i h l u =

@@ -119,7 +119,8 @@ module _ (image : List ℕ) (right : Right image) (byte : Bytes image) where
   read_code j = go (dec_lt j (code_length image))
     where
       go : Dec (j < code_length image) → get_or (code_in image) j 0 ≡ get_or (image_data image) (head_size + j) 0
-      go (yes h) = rw (get_or-take (code_length image) (drop head_size (image_data image)) j 0 h) (get_or-drop head_size (image_data image) j 0)
+      go (yes h) = rw (get_or-take (code_length image) (drop head_size (image_data image)) j 0 h)
+          (get_or-drop head_size (image_data image) j 0)
       go (no h) =
           let past : length (code_in image) ≤ j = rw read_size (omega arith) in
           let k : ℕ = j - code_length image in

@@ -79,7 +79,8 @@ blocks_next i bytes = rw add-one (go i bytes)
     go zero bytes = append-nil (block (take data_size bytes))
     go (suc i) bytes =
         let e : data_size + data_size * i ≡ data_size * suc i = omega arith in
-        ap (λ (r : List ℕ). block (take data_size bytes) ++ r) (go i (drop data_size bytes) ∙ rw (drop-drop (data_size * i) data_size bytes, e))
+        ap (λ (r : List ℕ). block (take data_size bytes) ++ r) (go i (drop data_size bytes)
+        ∙ rw (drop-drop (data_size * i) data_size bytes, e))
         ∙ sym (append_assoc (block (take data_size bytes)) _ _)
 
 pub length_block : (bytes : List ℕ) → length bytes ≡ data_size → length (block bytes) ≡ block_size

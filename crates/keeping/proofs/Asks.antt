@@ -13,7 +13,8 @@ use lib.Dec.{ltb}
 use borrow.Author.Tests.{leb-false}
 use Rattle.rules.specs.Limits.{record_count, stack_depth, slot_count, place_count}
 use Rattle.rules.specs.State.{State, Datum, value, handle, Last, split_item, close_item, wait_item, EndState, free_end, used, Registers}
-use Rattle.rules.specs.State.{registers, RecordState, free_record, running, waiting, record_at, end_at, slot_at, head_of, last_of, is_free_end}
+use Rattle.rules.specs.State.{registers, RecordState, free_record, running, waiting, record_at, end_at, slot_at, head_of, last_of}
+use Rattle.rules.specs.State.{is_free_end}
 use Rattle.rules.specs.State.{lowest_free_record}
 use Rattle.rules.specs.Refusal.{Row, refused, done, NoCause}
 use Rattle.rules.specs.Instruction.{Instruction, cst, access, store, add, mul, leq, put, get, split, fork, plug, close, halt, same, hput}
@@ -21,7 +22,8 @@ use Rattle.rules.specs.Instruction.{hcase, run, Decoded, decode}
 use Rattle.rules.specs.Causes.{stack_full, no_free_record, own_causes, shared_causes}
 use Rattle.rules.specs.RecordStep.{lowest_free, branch, partner_in}
 use Rattle.rules.specs.EndStep.{Wanted, a_value, a_handle, a_split, Wait, wait_of, Waiter, waiter_in, Meeting, mismatch, delivers}
-use Rattle.rules.specs.EndStep.{handle_chosen, meet_datum, meet_split, datum_against, split_against, meet_heads, meeting, is_mismatch, is_division}
+use Rattle.rules.specs.EndStep.{handle_chosen, meet_datum, meet_split, datum_against, split_against, meet_heads, meeting, is_mismatch}
+use Rattle.rules.specs.EndStep.{is_division}
 use Rattle.rules.specs.EndStep.{only_if, end_causes, after_meeting}
 use Rattle.rules.specs.Ask.{answer_to, ask_decoded, ask_in, ask_record, ask_end, pick_answer, ask}
 use Rattle.rules.specs.Slots.{over, emptied}

@@ -9,7 +9,8 @@ use native.Mathlib.Omega.{arith}
 use lib.ListN.{get_or}
 use Rattle.rules.specs.Count.{δ}
 use Rattle.rules.specs.State.{State, EndState, free_end, RecordState, free_record, record_at, end_at, last_of, wait_item}
-use Rattle.rules.specs.Sound.{RecordWithin, EndWithin, Within, held_in, carried_by, given_up, in_use, places_of, named_by, waits_naming, is_waiting}
+use Rattle.rules.specs.Sound.{RecordWithin, EndWithin, Within, held_in, carried_by, given_up, in_use, places_of, named_by, waits_naming}
+use Rattle.rules.specs.Sound.{is_waiting}
 use Rattle.rules.specs.Sound.{StandsAt, Sound}
 use Rattle.rules.proofs.CountLaws.{δ-same}
 use Rattle.keeping.proofs.Patch.{Put, patched, olds, news, Outside, Valid, AllNew, AllOld, length_patched, total_patch, at_patch}
@@ -45,7 +46,8 @@ pub record Change (st : State) (es : EndPatch) (rs : RecordPatch) : Type 0 where
       ≡ olds (λ r. held_in k) rs + olds (λ e. carried_by k) es + olds (λ e x. δ e k * given_up x) es + news (λ e x. δ e k * in_use x) es
   -- what is gained in waits is gained in waiting
   pub waits_ok : (k : ℕ)
-      → news (λ e. named_by k) es + olds (λ r x. δ r k * is_waiting x) rs ≡ olds (λ e. named_by k) es + news (λ r x. δ r k * is_waiting x) rs
+      → news (λ e. named_by k) es + olds (λ r x. δ r k * is_waiting x) rs ≡ olds (λ e. named_by k) es + news
+      (λ r x. δ r k * is_waiting x) rs
   -- every wait for a record put anew stood on an end put anew
   pub waits_were : AllOld (λ r x. is_waiting x ≡ olds (λ e. named_by r) es) rs
   -- each new end with a wait names a record that stands there

@@ -111,7 +111,8 @@ split_total g c a b p u e holds lc la lb differ ta tb k =
     )
 
 module _ (st : State) (s : Sound st) (r : ℕ) (g : Registers) (is : record_at st r ≡ running g) where
-  module _ (g' : Registers) (e m : ℕ) (ds : List Datum) (was : end_at st e ≡ used m ds none) (p q u t : ℕ) (free : FourFree st p q u t) where
+  module _ (g' : Registers) (e m : ℕ) (ds : List Datum) (was : end_at st e ≡ used m ds none) (p q u t : ℕ)
+      (free : FourFree st p q u t) where
     pub split_move : EndWithin (used m ds (some (split_item q t))) → δ e m ≡ 0 → RegistersWithin g'
         → ((k : ℕ) → total (in_slot k) g'.slots + δ e k ≡ total (in_slot k) g.slots + δ k p + δ k u)
         → Move st

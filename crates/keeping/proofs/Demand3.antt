@@ -16,10 +16,13 @@ use Rattle.rules.specs.Ask.{ask_in, ask_record, ask_end, pick_answer, ask}
 use Rattle.rules.specs.Run.{Step, Ran, steps, ran_by, run_from}
 use Rattle.rules.specs.Sound.{Sound}
 use Rattle.rules.specs.Events.{new_history}
-use Rattle.rules.specs.Image.{block_size, data_size, head_size, read_causes, code_in, code_length, image_data, data_in, blocks_in, read_image}
+use Rattle.rules.specs.Image.{block_size, data_size, head_size, read_causes, code_in, code_length, image_data, data_in, blocks_in}
+use Rattle.rules.specs.Image.{read_image}
 use Rattle.rules.specs.Layout.{state_size, layout, view}
-use Rattle.rules.specs.Calls.{length_cause, start_cause, called, where_sound, started, load_answer, load, record_answer, call_record, end_answer}
-use Rattle.rules.specs.Calls.{call_end, run_answer, reached_or, call_run, Call, record_asked, end_asked, run, memory_after, step_if, steps_if}
+use Rattle.rules.specs.Calls.{length_cause, start_cause, called, where_sound, started, load_answer, load, record_answer, call_record}
+use Rattle.rules.specs.Calls.{end_answer}
+use Rattle.rules.specs.Calls.{call_end, run_answer, reached_or, call_run, Call, record_asked, end_asked, run, memory_after, step_if}
+use Rattle.rules.specs.Calls.{steps_if}
 use Rattle.rules.specs.Calls.{call_steps, memory_after_all, all_steps, all_events}
 use Rattle.keeping.specs.Queues.{AllAgree}
 use Rattle.keeping.specs.Demand3.{SoundMemory, Demand3}
@@ -171,7 +174,8 @@ loaded m image b h =
     let bytes = all_take Byte 0 (code_length image) body (omega arith)
     (all_drop Byte 0 head_size (data_in (blocks_in image) image) (data_bytes (blocks_in image) image b)) in (
       ap (λ (a : Answer State). (called m a).memory) (outer.1 ∙ ap started inner.1),
-      start_sound (code_in image) (omega (arith, length-take (code_length image) body, min-le_left (code_length image) (length body))) bytes,
+      start_sound (code_in image) (omega (arith, length-take (code_length image) body, min-le_left (code_length image) (length body)))
+          bytes,
     )
 
 -- for every image that loads, and every list of asks and runs from there, refused ones among them

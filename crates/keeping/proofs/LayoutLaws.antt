@@ -13,7 +13,8 @@ use Rattle.rules.specs.Limits.{record_count, end_count, slot_count, stack_depth,
 use Rattle.rules.specs.Bytes.{bytes_of, flat, pad}
 use Rattle.rules.specs.State.{State, Value, EndState, Registers, RecordState, free_record, running, waiting, queue_length}
 use Rattle.rules.specs.Slots.{Slots}
-use Rattle.rules.specs.Layout.{value_size, cell_size, record_size, free_size, queue_size, state_size, optional, value_bytes, registers_bytes}
+use Rattle.rules.specs.Layout.{value_size, cell_size, record_size, free_size, queue_size, state_size, optional, value_bytes}
+use Rattle.rules.specs.Layout.{registers_bytes}
 use Rattle.rules.specs.Layout.{no_registers, record_bytes, free_word, partner_byte, queue_cells, queue_bytes, layout}
 use Rattle.words.proofs.Numbers.{length_bytes}
 use Rattle.words.proofs.Pads.{length_pad}
@@ -26,7 +27,8 @@ unfolding value_bytes
 length_value v = length_bytes value_size (of_z w32 v)
 
 length_values : (n : ℕ) (l : List Value) → length (flat value_bytes (pad n (pos 0) l)) ≡ value_size * n
-length_values n l = length_flat value_bytes value_size length_value (pad n (pos 0) l) ∙ ap (λ (k : ℕ). value_size * k) (length_pad n (pos 0) l)
+length_values n l = length_flat value_bytes value_size length_value (pad n (pos 0) l)
+    ∙ ap (λ (k : ℕ). value_size * k) (length_pad n (pos 0) l)
 
 length_slots : (l : Slots) → length (map optional (pad slot_count none l)) ≡ slot_count
 length_slots l = length-map (pad slot_count none l) optional ∙ length_pad slot_count none l

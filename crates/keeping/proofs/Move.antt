@@ -68,7 +68,8 @@ unfolding history history_with about
 history_about e h [] = refl
 history_about e h (created f ∷ xs) = pick_history_lem e h new_history (created f) xs (eqb f e) (λ k. history_about e k xs) refl
 history_about e h (put_on f d ∷ xs) = pick_history_lem e h (more_put h d) (put_on f d) xs (eqb f e) (λ k. history_about e k xs) refl
-history_about e h (taken_from f d ∷ xs) = pick_history_lem e h (more_taken h d) (taken_from f d) xs (eqb f e) (λ k. history_about e k xs) refl
+history_about e h (taken_from f d ∷ xs) = pick_history_lem e h (more_taken h d) (taken_from f d) xs (eqb f e)
+    (λ k. history_about e k xs) refl
 
 -- agreement, by what is queued on an end in use
 agrees_used : (x : EndState) (h : History) → (in_use x ≡ 1 → h.put_so_far ≡ h.taken_so_far ++ data_of x) → Agrees x h
@@ -79,12 +80,14 @@ used_agrees : (x : EndState) (h : History) → Agrees x h → in_use x ≡ 1 →
 used_agrees free_end h a u = absurd (omega arith)
 used_agrees (used m ds l) h a u = a
 
-agrees_same : (old new : EndState) (h : History) → (old ≡ free_end → new ≡ free_end) → data_of new ≡ data_of old → Agrees old h → Agrees new h
+agrees_same : (old new : EndState) (h : History) → (old ≡ free_end → new ≡ free_end) → data_of new ≡ data_of old
+    → Agrees old h → Agrees new h
 agrees_same free_end new h f q a = rw (f refl) tt
 agrees_same (used m ds l) new h f q a = agrees_used new h (λ u. rw q a)
 
 -- one step: the history goes on agreeing
-agrees_change : (old new : EndState) (xs : List Event) (h : History) → QueueChange old new xs → Agrees old h → Agrees new (history_with h xs)
+agrees_change : (old new : EndState) (xs : List Event) (h : History) → QueueChange old new xs → Agrees old h
+    → Agrees new (history_with h xs)
 unfolding history_with
 agrees_change old new [] h c a = agrees_same old new h c.1 c.0 a
 agrees_change old new (created e ∷ []) h c a = agrees_used new new_history (λ u. sym c.1)

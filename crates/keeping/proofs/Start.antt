@@ -9,7 +9,8 @@ use Rattle.rules.specs.Limits.{record_count, end_count, slot_count, code_limit}
 use Rattle.rules.specs.State.{wait_item, free_end, Registers, registers, RecordState, free_record, running, record_at, end_at, last_of}
 use Rattle.rules.specs.State.{empty_slots, start}
 use Rattle.rules.specs.Count.{total}
-use Rattle.rules.specs.Sound.{RegistersWithin, RecordWithin, in_slot, held_in, carried_by, places_of, named_by, waits_naming, is_waiting, Sound}
+use Rattle.rules.specs.Sound.{RegistersWithin, RecordWithin, in_slot, held_in, carried_by, places_of, named_by, waits_naming, is_waiting}
+use Rattle.rules.specs.Sound.{Sound}
 use Rattle.rules.specs.Events.{new_history}
 use Rattle.rules.proofs.CountLaws.{total_zero}
 use Rattle.keeping.specs.Queues.{AllAgree}

@@ -16,7 +16,8 @@ use lib.Dec.{leb, ltb, eqb}
 use borrow.Author.Tests.{leb-false, ltb-false, eqb-false}
 use Rattle.rules.specs.Limits.{end_count, queue_depth, slot_count, stack_depth, environment_depth, place_count, value_bound}
 use Rattle.rules.specs.State.{State, Value, Datum, value, handle, close_item, wait_item, EndState, used, Registers, registers, RecordState}
-use Rattle.rules.specs.State.{free_record, running, waiting, record_at, end_at, set_record, slot_at, end_in, end_or, partner_of, queue_length}
+use Rattle.rules.specs.State.{free_record, running, waiting, record_at, end_at, set_record, slot_at, end_in, end_or, partner_of}
+use Rattle.rules.specs.State.{queue_length}
 use Rattle.rules.specs.Refusal.{NoCause}
 use Rattle.rules.specs.Instruction.{Instruction, cst, access, store, add, mul, leq, put, get, split, fork, plug, close, halt, same, hput}
 use Rattle.rules.specs.Instruction.{hcase, run, Decoded, decode}

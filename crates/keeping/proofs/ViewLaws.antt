@@ -16,9 +16,12 @@ use Rattle.rules.specs.Bytes.{bytes_of, number_at, flat, pad, pieces}
 use Rattle.rules.specs.State.{State, Value, Datum, value, handle, Last, split_item, close_item, wait_item, EndState, free_end, used}
 use Rattle.rules.specs.State.{Registers, registers, RecordState, free_record, running, waiting, end_at, queue_length, last_of, is_free_end}
 use Rattle.rules.specs.Slots.{Slots, low_bit}
-use Rattle.rules.specs.Layout.{value_size, cell_size, record_size, free_size, queue_size, records_at, free_at, partners_at, counts_at, queues_at}
-use Rattle.rules.specs.Layout.{optional, value_bytes, registers_bytes, record_bytes, free_word, partner_byte, datum_cell, last_cell, last_cells}
-use Rattle.rules.specs.Layout.{queue_cells, queue_bytes, layout, view_optional, view_value, view_values, view_registers, view_status, view_record}
+use Rattle.rules.specs.Layout.{value_size, cell_size, record_size, free_size, queue_size, records_at, free_at, partners_at, counts_at}
+use Rattle.rules.specs.Layout.{queues_at}
+use Rattle.rules.specs.Layout.{optional, value_bytes, registers_bytes, record_bytes, free_word, partner_byte, datum_cell, last_cell}
+use Rattle.rules.specs.Layout.{last_cells}
+use Rattle.rules.specs.Layout.{queue_cells, queue_bytes, layout, view_optional, view_value, view_values, view_registers, view_status}
+use Rattle.rules.specs.Layout.{view_record}
 use Rattle.rules.specs.Layout.{Queue, queue, in_front, view_cell, view_cells, view_queue, view_end, view_ends, view}
 use Rattle.rules.specs.Sound.{ValueWithin, DatumWithin, RegistersWithin, RecordWithin, EndWithin, Within}
 use Rattle.words.proofs.Numbers.{length_bytes, number_skip, number_bytes}
@@ -29,7 +32,8 @@ use Rattle.keeping.proofs.LayoutLaws.{length_value, length_record, length_queue}
 -- ---- lists
 
 -- what is written and read back, element by element
-map_back : {A B : Type 0} (f : A → B) (g : B → A) (d : A) (xs : List A) → ((i : ℕ) → g (f (get_or xs i d)) ≡ get_or xs i d) → map g (map f xs)
+map_back : {A B : Type 0} (f : A → B) (g : B → A) (d : A) (xs : List A)
+    → ((i : ℕ) → g (f (get_or xs i d)) ≡ get_or xs i d) → map g (map f xs)
     ≡ xs
 map_back f g d [] h = refl
 map_back f g d (x ∷ xs) h = λ i. h 0 i ∷ map_back f g d xs (λ j. h (suc j)) i
@@ -220,7 +224,8 @@ free_word_fits [] = omega arith
 free_word_fits (free_end ∷ l) = omega (arith, free_word_fits l, pow-succ' 2 (length l))
 free_word_fits (used m ds k ∷ l) = omega (arith, free_word_fits l, pow-succ' 2 (length l))
 
-end_back : (x : EndState) → EndWithin x → LastFits (last_of x) → view_end (is_free_end x) (partner_byte x) (queue_length x) (queue_bytes x) ≡ x
+end_back : (x : EndState) → EndWithin x → LastFits (last_of x)
+    → view_end (is_free_end x) (partner_byte x) (queue_length x) (queue_bytes x) ≡ x
 unfolding view_end partner_byte
 end_back free_end w h = refl
 end_back (used m ds l) w h = ap (λ (q : Queue). used m q.queued q.final) (queue_back m ds l w h)
@@ -319,7 +324,8 @@ module _ (st : State) (w : Within st) (fits : (e : ℕ) → LastFits (last_of (e
       ∙ number_bytes free_size (free_word st.ends) behind_free
       (subst (λ (k : ℕ). free_word st.ends < 2 ^ k) w.end_count_is (free_word_fits st.ends))
 
-  ends_read : view_ends end_count (number_at free_size (drop free_at (layout st)) 0) (drop partners_at (layout st)) (drop counts_at (layout st))
+  ends_read : view_ends end_count (number_at free_size (drop free_at (layout st)) 0)
+      (drop partners_at (layout st)) (drop counts_at (layout st))
       (drop queues_at (layout st)) ≡ st.ends
   unfolding behind_free behind_partners behind_counts
   ends_read =

@@ -46,7 +46,8 @@ module _ (m image : List ℕ) where
   unfolding load_answer load unless
   image_refused n h e = rw (eq-eqb (length m) state_size h, e) (record { answer_is = refl; memory_is = refl })
 
-  pub image_loaded : (left : List ℕ) → length m ≡ state_size → read_image image ≡ done (code_in image) → left ≡ layout (start (code_in image))
+  pub image_loaded : (left : List ℕ) → length m ≡ state_size → read_image image ≡ done (code_in image)
+      → left ≡ layout (start (code_in image))
       → Promise (reply_to (load_answer m image)) (load m image).memory Done left
   unfolding load_answer load unless
   image_loaded left h e q = rw (eq-eqb (length m) state_size h, e) (record { answer_is = refl; memory_is = q })

@@ -24,7 +24,8 @@ use Rattle.stepping.proofs.Steps.{other_end}
 use Rattle.meetings.proofs.Pairs.{last_is}
 
 -- no data here stays so when another end, or this one, is freed
-pub no_data_still : (st : State) (e f : ℕ) → e < length st.ends → data_of (end_at st f) ≡ [] → data_of (end_at (set_end st e free_end) f) ≡ []
+pub no_data_still : (st : State) (e f : ℕ) → e < length st.ends → data_of (end_at st f) ≡ []
+    → data_of (end_at (set_end st e free_end) f) ≡ []
 no_data_still st e f within h = go (ℕ_discrete e f)
   where
     go : Dec (e ≡ f) → data_of (end_at (set_end st e free_end) f) ≡ []
@@ -57,7 +58,8 @@ split_within st s from p q h =
     )
 
 -- the partner of an end in use: as the memory shows it, one of the state's
-pub partner_shown : (st : State) → Sound st → (e : ℕ) → is_free_end (end_at st e) ≡ false → {f : ℕ} → f ≡ end_or 0 (partner_of (end_at st e))
+pub partner_shown : (st : State) → Sound st → (e : ℕ) → is_free_end (end_at st e) ≡ false → {f : ℕ}
+    → f ≡ end_or 0 (partner_of (end_at st e))
     → (f ≡ partner_in st e) × (f < end_count)
 partner_shown st s e h {f} q = go (end_at st e) refl
   where

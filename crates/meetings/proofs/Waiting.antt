@@ -95,7 +95,8 @@ module _ (m : List ℕ) (s : SoundMemory m) where
       }
 
   -- the two ends and the record are the state's
-  pub datum_within : {from to r : ℕ} {d : Datum} → DatumWaits (view m) from to d r → (from < end_count) × (to < end_count) × (r < record_count)
+  pub datum_within : {from to r : ℕ} {d : Datum} → DatumWaits (view m) from to d r → (from < end_count)
+      × (to < end_count) × (r < record_count)
   datum_within {from} {to} {r} h = (
     head_in_list (view m) s.state_sound from h.datum_heads,
     head_in_list (view m) s.state_sound to h.wait_heads,

@@ -9,7 +9,8 @@ use lib.Seq.{set-append_left}
 use Rattle.rules.specs.Limits.{record_count, end_count, queue_depth, code_limit}
 use Rattle.rules.specs.Bytes.{bytes_of, number_at, flat, pad}
 use Rattle.rules.specs.State.{State, EndState, RecordState, free_record, queue_length}
-use Rattle.rules.specs.Layout.{cell_size, record_size, free_size, records_at, free_at, partners_at, counts_at, queues_at, record_bytes, free_word}
+use Rattle.rules.specs.Layout.{cell_size, record_size, free_size, records_at, free_at, partners_at, counts_at, queues_at, record_bytes}
+use Rattle.rules.specs.Layout.{free_word}
 use Rattle.rules.specs.Layout.{partner_byte, queue_cells, queue_bytes, layout}
 use Rattle.words.specs.Parts.{put_at}
 use Rattle.words.proofs.Parts.{put_skip, put_in, put_all, put_append}
@@ -83,7 +84,8 @@ pub sections : (code : List ℕ) (records : List RecordState) (word : ℕ) (part
 unfolding sectioned behind_code behind_records behind_word behind_partners
 sections code records word partners counts cells = refl
 
-pub put_code : (code m : List ℕ) (o : ℕ) (bytes : List ℕ) → put_at (with_code code m) (records_at + o) bytes ≡ with_code code (put_at m o bytes)
+pub put_code : (code m : List ℕ) (o : ℕ) (bytes : List ℕ)
+    → put_at (with_code code m) (records_at + o) bytes ≡ with_code code (put_at m o bytes)
 put_code code m o bytes =
     let e : records_at + o ≡ 2 + (code_limit + o) = omega arith in
     ap (λ (k : ℕ). put_at (with_code code m) k bytes) e
@@ -114,7 +116,8 @@ module _ (code : List ℕ) (records : List RecordState) (word : ℕ) (partners c
       let e : free_at + o ≡ records_at + (record_size * record_count + o) = omega arith in
       let rest = behind_records code records word partners counts cells in
       ap (λ (k : ℕ). put_at (sectioned code records word partners counts cells) k bytes) e
-      ∙ ap (λ (m : List ℕ). put_at m (records_at + (record_size * record_count + o)) bytes) (sections code records word partners counts cells)
+      ∙ ap (λ (m : List ℕ). put_at m (records_at + (record_size * record_count + o)) bytes)
+      (sections code records word partners counts cells)
       ∙ put_code code (flat record_bytes records ++ rest) (record_size * record_count + o) bytes
       ∙ ap (with_code code) (put_behind (flat record_bytes records) rest (record_size * record_count) o bytes records_long)
 
@@ -125,7 +128,8 @@ module _ (code : List ℕ) (records : List RecordState) (word : ℕ) (partners c
       let e : free_at + o ≡ records_at + (record_size * record_count + o) = omega arith in
       let rest = behind_records code records word partners counts cells in
       ap (λ (j : ℕ). number_at k (sectioned code records word partners counts cells) j) e
-      ∙ ap (λ (m : List ℕ). number_at k m (records_at + (record_size * record_count + o))) (sections code records word partners counts cells)
+      ∙ ap (λ (m : List ℕ). number_at k m (records_at + (record_size * record_count + o)))
+      (sections code records word partners counts cells)
       ∙ number_code k code (flat record_bytes records ++ rest) (record_size * record_count + o)
       ∙ number_behind k (flat record_bytes records) rest (record_size * record_count) o records_long
 
@@ -159,7 +163,8 @@ module _ (code : List ℕ) (records : List RecordState) (word : ℕ) (partners c
       ∙ ap (λ (m : List ℕ). number_at k m (records_at + (record_size * i + o))) (sections code records word partners counts cells)
       ∙ number_code k code (flat record_bytes records ++ rest) (record_size * i + o)
       ∙ number_in k (flat record_bytes records ++ rest) (record_size * i) record_size o l
-      ∙ ap (λ (r : List ℕ). number_at k r o) (cut_flat record_bytes record_size length_record records i free_record rest (omega (arith, nr)))
+      ∙ ap (λ (r : List ℕ). number_at k r o) (cut_flat record_bytes record_size length_record records i
+      free_record rest (omega (arith, nr)))
 
   -- ---- the word of free ends
 
@@ -198,7 +203,8 @@ module _ (code : List ℕ) (records : List RecordState) (word : ℕ) (partners c
   number_past_word k o =
       let e : partners_at + o ≡ free_at + (free_size + o) = omega arith in
       ap (λ (j : ℕ). number_at k (sectioned code records word partners counts cells) j) e ∙ number_past_records k (free_size + o)
-      ∙ number_behind k (bytes_of free_size word) (behind_word code records word partners counts cells) free_size o (length_bytes free_size word)
+      ∙ number_behind k (bytes_of free_size word) (behind_word code records word partners counts cells) free_size o
+      (length_bytes free_size word)
 
   pub put_partner : (e b : ℕ) → e < end_count
       → put_at (sectioned code records word partners counts cells) (partners_at + e) (b ∷ [])
@@ -247,7 +253,8 @@ module _ (code : List ℕ) (records : List RecordState) (word : ℕ) (partners c
       (put_one counts (flat (bytes_of cell_size) cells) e b (omega (arith, nc)))
       ∙ sym (sections code records word partners (set counts e b) cells)
 
-  pub read_count : (e : ℕ) → e < end_count → get_or (sectioned code records word partners counts cells) (counts_at + e) 0 ≡ get_or counts e 0
+  pub read_count : (e : ℕ) → e < end_count → get_or (sectioned code records word partners counts cells)
+      (counts_at + e) 0 ≡ get_or counts e 0
   unfolding behind_partners
   read_count e h =
       byte_is (sectioned code records word partners counts cells) (counts_at + e)

@@ -107,7 +107,8 @@ filled m e =
 abbrev first_runs : List RecordState
 first_runs = set (replicate record_count free_record) 0 (running (registers 0 [] [] empty_slots))
 
-status_written : set nothing records_at 1 ≡ sectioned [] first_runs 0 (replicate end_count 0) (replicate end_count 0) (replicate cell_count 0)
+status_written : set nothing records_at 1 ≡ sectioned [] first_runs 0 (replicate end_count 0)
+    (replicate end_count 0) (replicate cell_count 0)
 unfolding behind_code behind_records behind_word behind_partners flat record_bytes no_registers
 status_written =
     let none_of : List ℕ = replicate end_count 0 in
@@ -133,7 +134,8 @@ pub queues_empty : all_cells (replicate end_count free_end) ≡ replicate cell_c
 unfolding all_cells cells_of flat pad Rattle.rules.specs.Layout.queue_cells
 queues_empty = refl
 
-start_is : layout (start []) ≡ sectioned [] first_runs all_free_word (replicate end_count 0) (replicate end_count 0) (replicate cell_count 0)
+start_is : layout (start []) ≡ sectioned [] first_runs all_free_word (replicate end_count 0)
+    (replicate end_count 0) (replicate cell_count 0)
 unfolding start
 start_is =
     layout_is (start []) ∙ (λ i. sectioned [] first_runs (all_free i) (no_partners i) (nothing_queued i) (queues_empty i))

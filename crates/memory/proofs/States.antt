@@ -9,7 +9,8 @@ use lib.Seq.{get_or-take, get_or-drop}
 use Rattle.rules.specs.Limits.{record_count, end_count, queue_depth}
 use Rattle.rules.specs.Bytes.{bytes_of, number_at, flat}
 use Rattle.rules.specs.State.{State, EndState, free_end, RecordState, record_at, end_at, set_record, set_end, queue_length}
-use Rattle.rules.specs.Layout.{cell_size, record_size, free_size, records_at, free_at, partners_at, counts_at, queues_at, record_bytes, free_word}
+use Rattle.rules.specs.Layout.{cell_size, record_size, free_size, records_at, free_at, partners_at, counts_at, queues_at, record_bytes}
+use Rattle.rules.specs.Layout.{free_word}
 use Rattle.rules.specs.Layout.{partner_byte, queue_cells, layout}
 use Rattle.words.specs.Parts.{put_at}
 use Rattle.words.proofs.Pads.{length_pad}
@@ -112,7 +113,8 @@ module _ (st : State) (z : Sized st) where
       partners_long counts_long e h
       ∙ get_or-map queue_length st.ends e free_end
 
-  cells_at : (e i : ℕ) → e < end_count → i < queue_depth → get_or (all_cells st.ends) (queue_depth * e + i) 0 ≡ get_or (cells_of (end_at st e)) i 0
+  cells_at : (e i : ℕ) → e < end_count → i < queue_depth
+      → get_or (all_cells st.ends) (queue_depth * e + i) 0 ≡ get_or (cells_of (end_at st e)) i 0
   unfolding all_cells
   cells_at e i h k =
       let all = all_cells st.ends in

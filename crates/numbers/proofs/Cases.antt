@@ -61,7 +61,8 @@ module _ (st : State) (r next : ℕ) (g : Registers) where
   unfolding unless
   outside_refused v t = rw t
 
-  pub inside_done : (v : Value) → outside v ≡ false → checked st r next g v ≡ done (set_record st r (running (moved_to (combined g v) next)))
+  pub inside_done : (v : Value) → outside v ≡ false
+      → checked st r next g v ≡ done (set_record st r (running (moved_to (combined g v) next)))
   unfolding unless
   inside_done v f = rw f
 

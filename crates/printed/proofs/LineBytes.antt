@@ -46,7 +46,8 @@ from_next next = decimal next ++ 10 ∷ []
 abbrev pub from_steps : (made next : ℕ) → List ℕ
 from_steps made next = decimal made ++ ((32 ∷ []) ++ from_next next)
 
-pub last_text_lem : (v : Verdict) (made next : ℕ) → verdict_text (verdict_in v) ++ ((32 ∷ []) ++ from_steps made next) ≡ last_line v made next
+pub last_text_lem : (v : Verdict) (made next : ℕ)
+    → verdict_text (verdict_in v) ++ ((32 ∷ []) ++ from_steps made next) ≡ last_line v made next
 unfolding last_line last_text text
 last_text_lem v made next = six (verdict_text (verdict_in v)) (32 ∷ []) (decimal made) (32 ∷ []) (decimal next) (10 ∷ [])
 

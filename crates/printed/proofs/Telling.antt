@@ -163,7 +163,8 @@ told_position st p z h = go (ltb p record_count) h
     of_end (divides r g g') k = ap (λ (x : Printed). x.position) (sym (same k))
     of_end closes k = ap (λ (x : Printed). x.position) (sym (same k))
 
-    go : (b : Bool) → pick_printed b (printed_record st.code p (record_at st p)) (printed_meeting p (meeting st (p - record_count))) ≡ some z
+    go : (b : Bool) → pick_printed b (printed_record st.code p (record_at st p))
+        (printed_meeting p (meeting st (p - record_count))) ≡ some z
         → z.position ≡ p
     go true k = of_record (record_at st p) k
     go false k = of_end (meeting st (p - record_count)) k

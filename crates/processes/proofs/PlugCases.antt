@@ -30,7 +30,8 @@ module _ (st : State) (r next : ℕ) (g : Registers) (a m place m' place' : ℕ)
   unfolding shared_causes unless
   too_few_ends t = own_done st r next g (plug a m place m' place') passes ∙ rw t
 
-  pub no_free_record_lem : few_free_ends 2 st ≡ false → no_free_record st ≡ true → answer_to st r next g (plug a m place m' place') ≡ refused 15
+  pub no_free_record_lem : few_free_ends 2 st ≡ false → no_free_record st ≡ true
+      → answer_to st r next g (plug a m place m' place') ≡ refused 15
   unfolding shared_causes unless
   no_free_record_lem f t = own_done st r next g (plug a m place m' place') passes ∙ rw (f, t)
 

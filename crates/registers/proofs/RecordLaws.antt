@@ -15,7 +15,8 @@ use Rattle.rules.specs.Limits.{record_count, slot_count, stack_depth, environmen
 use Rattle.rules.specs.Bytes.{bytes_of, number_at, flat, pad}
 use Rattle.rules.specs.State.{State, Value, Registers as Process, RecordState, free_record, running, waiting, record_at}
 use Rattle.rules.specs.Sound.{ValueWithin, RegistersWithin, RecordWithin}
-use Rattle.rules.specs.Layout.{value_size, record_size, records_at, value_bytes, state_size, registers_bytes, no_registers, record_bytes, layout}
+use Rattle.rules.specs.Layout.{value_size, record_size, records_at, value_bytes, state_size, registers_bytes, no_registers, record_bytes}
+use Rattle.rules.specs.Layout.{layout}
 use Rattle.words.proofs.Numbers.{number_skip, number_in, number_bytes}
 use Rattle.words.proofs.Pads.{length_pad, pad_all}
 use Rattle.words.proofs.Pieces.{length_flat, cut_flat}
@@ -186,7 +187,8 @@ module _ (st : State) (z : Sized st) (r : ℕ) (h : r < record_count) {m : List 
   pub record_read : (k o : ℕ) → o + k ≤ record_size
       → number_at k m (at + o) ≡ number_at k (status_byte (record_at st r) ∷ registers_bytes (registers_in (record_at st r))) o
   record_read k o l =
-      (λ i. number_at k (e i) (p i + o)) ∙ record_number st z k r o h l ∙ ap (λ (b : List ℕ). number_at k b o) (record_bytes_lem (record_at st r))
+      (λ i. number_at k (e i) (p i + o)) ∙ record_number st z k r o h l
+      ∙ ap (λ (b : List ℕ). number_at k b o) (record_bytes_lem (record_at st r))
 
   pub byte_read : (o : ℕ) → o < record_size
       → get_or m (at + o) 0 ≡ get_or (status_byte (record_at st r) ∷ registers_bytes (registers_in (record_at st r))) o 0
@@ -200,7 +202,8 @@ module _ (st : State) (z : Sized st) (r : ℕ) (h : r < record_count) {m : List 
   -- sixteen values
   pub values_read : (o : ℕ) (l : List Value) → o + value_size * stack_depth ≤ record_size
       → ((j : ℕ) → j < stack_depth
-      → to_z w32 (number_at value_size (status_byte (record_at st r) ∷ registers_bytes (registers_in (record_at st r))) (o + value_size * j))
+      → to_z w32 (number_at value_size (status_byte (record_at st r) ∷ registers_bytes (registers_in (record_at st r)))
+      (o + value_size * j))
       ≡ get_or (pad stack_depth (pos 0) l) j (pos 0))
       → values_at m (at + o) ≡ pad stack_depth (pos 0) l
   unfolding values_at

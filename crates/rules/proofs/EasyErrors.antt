@@ -63,7 +63,8 @@ shared_out =
 -- a handle stands before the value
 abbrev pub behind_the_head : Fact
 behind_the_head =
-    fact (number_after (plug_to 18 ++ hput_bytes 9 ++ cst_bytes 4 ++ put_bytes ++ get_bytes) (0 ∷ 0 ∷ 0 ∷ 0 ∷ 1 ∷ []) (end 0) ∷ []) (18 ∷ [])
+    fact (number_after (plug_to 18 ++ hput_bytes 9 ++ cst_bytes 4 ++ put_bytes ++ get_bytes) (0 ∷ 0 ∷ 0 ∷ 0 ∷ 1 ∷ []) (end 0) ∷ [])
+    (18 ∷ [])
 
 -- ---- a put is an event
 

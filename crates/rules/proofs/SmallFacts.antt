@@ -101,7 +101,8 @@ value_and_get = plug_to 15 ++ cst_bytes 4 ++ put_bytes ++ get_bytes
 
 abbrev pub fact_4 : Fact
 fact_4 = record {
-  found = pos (number_after value_and_get (0 ∷ 0 ∷ 0 ∷ 1 ∷ []) (end 0)) ∷ (registers_after value_and_get (0 ∷ 0 ∷ 0 ∷ 1 ∷ end 0 ∷ []) 1).stack;
+  found = pos (number_after value_and_get (0 ∷ 0 ∷ 0 ∷ 1 ∷ []) (end 0)) ∷
+      (registers_after value_and_get (0 ∷ 0 ∷ 0 ∷ 1 ∷ end 0 ∷ []) 1).stack;
   said = pos 0 ∷ pos 4 ∷ [];
 }
 

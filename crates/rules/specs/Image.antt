@@ -1,6 +1,7 @@
 -- Document 01, "Method image": blocks of 512 bytes, 510 of data and their RFC 1071 checksum; the writer, and the reader with 20 to 23.
 -- Assumes nothing.
-use Rattle.std.specs.Prelude.{ℕ, zero, suc, ◌+◌, ◌-◌, ◌*◌, ◌/◌, ◌%◌, Bool, true, false, not, List, [], ◌∷◌, ◌++◌, length, get_or, take, drop, ltb, eqb}
+use Rattle.std.specs.Prelude.{ℕ, zero, suc, ◌+◌, ◌-◌, ◌*◌, ◌/◌, ◌%◌, Bool, true, false, not, List, [], ◌∷◌, ◌++◌, length, get_or, take}
+use Rattle.std.specs.Prelude.{drop, ltb, eqb}
 use Rattle.rules.specs.Limits.{code_limit}
 use Rattle.rules.specs.Bytes.{pad}
 use Rattle.rules.specs.Refusal.{Row, Answer, done, unless}

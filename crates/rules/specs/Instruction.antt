@@ -182,7 +182,8 @@ decoded_if false d = none
 abbrev pub decode_as : List ℕ → ℕ → Option Form → Option Decoded
 decode_as code place none = none
 decode_as code place (some f) =
-    decoded_if (no_cause (misfits code place f)) (record { instruction = instruction_at code place f.name; next = place_after code place f })
+    decoded_if (no_cause (misfits code place f))
+    (record { instruction = instruction_at code place f.name; next = place_after code place f })
 
 -- the instruction at a place with the place after it, or none: 4
 unfoldable pub decode : List ℕ → ℕ → Option Decoded

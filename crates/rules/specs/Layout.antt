@@ -1,6 +1,7 @@
 -- The state memory, byte by byte, and its reading back: `layout` writes a state, `view` reads one. Numbers stand low byte first; a number
 -- that may be absent is stored plus one, 0 for none; cells not in use hold zero. docs/STATE.md has the table. Assumes nothing.
-use Rattle.std.specs.Prelude.{ℕ, zero, suc, ◌+◌, ◌*◌, ◌/◌, ◌%◌, Bool, true, false, List, [], ◌∷◌, ◌++◌, map, length, get_or, take, drop, pos}
+use Rattle.std.specs.Prelude.{ℕ, zero, suc, ◌+◌, ◌*◌, ◌/◌, ◌%◌, Bool, true, false, List, [], ◌∷◌, ◌++◌, map, length, get_or, take, drop}
+use Rattle.std.specs.Prelude.{pos}
 use Rattle.std.proofs.Math.Option.{Option, none, some}
 use Rattle.std.specs.Int.{w32}
 use Rattle.std.proofs.Common.{to_z, of_z}

@@ -15,7 +15,8 @@ use Rattle.rules.specs.Bytes.{number_at}
 use Rattle.rules.specs.State.{Last, split_item, close_item, wait_item, end_at, last_of}
 use Rattle.rules.specs.EndStep.{only_if}
 use Rattle.rules.specs.SoundTest.{last_within}
-use Rattle.rules.specs.Layout.{cell_size, queue_size, partners_at, counts_at, queues_at, queue, cell_kind, view_cell, view_cells, view_queue, view}
+use Rattle.rules.specs.Layout.{cell_size, queue_size, partners_at, counts_at, queues_at, queue, cell_kind, view_cell, view_cells}
+use Rattle.rules.specs.Layout.{view_queue, view}
 use Rattle.rules.proofs.TestLaws.{true_is_not_false, left_of, right_of, all_true_read}
 use Rattle.words.proofs.Numbers.{number_in}
 use Rattle.canonical.specs.Canonical.{either, free_in, queue_part, cells_in, datum_fits, last_fits, is_datum, is_last, canonical_cells}
@@ -187,7 +188,8 @@ module _ (m : List ℕ) (e : ℕ) (h : e < end_count) (t : end_test m e ≡ true
           let u = used_test f in
           let few = u.0 in
           let cs = take count (cells_in bytes) in
-          let long : length cs ≡ suc (count - 1) = length-take-le count (cells_in bytes) (omega (arith, length_cells bytes)) ∙ omega arith in
+          let long : length cs ≡ suc (count - 1) = length-take-le count (cells_in bytes) (omega (arith, length_cells bytes))
+          ∙ omega arith in
           let i : count - 1 < count = omega arith in
           let same : get_or cs (count - 1) 0 ≡ cell =
           get_or-take count (cells_in bytes) (count - 1) 0 i ∙ cell_at bytes (count - 1) (omega arith)

@@ -108,7 +108,8 @@ module _ (e : ℕ) (g : Process) (code : List ℕ) (place next : ℕ) where
     pub stands_hcase : {n : ℕ} → i ≡ Hcase c n
         → own ≡ own_reply g (rules.hcase (slot_number c) (rules.places_at code place 3 n)) → b ≡ stands i
     unfolding stands_named
-    stands_hcase {n = n} is o = named (slot_number c) (rules.hcase (slot_number c) (rules.places_at code place 3 n)) h t o ∙ sym (ap stands is)
+    stands_hcase {n = n} is o = named (slot_number c) (rules.hcase (slot_number c) (rules.places_at code place 3 n)) h t o
+        ∙ sym (ap stands is)
 
     pub stands_fork : {a b' : Slot} {first second : Branch} → i ≡ Fork c a first b' second
         → own ≡ own_reply g (instruction_of code place (Fork c a first b' second)) → b ≡ stands i

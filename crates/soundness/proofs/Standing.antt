@@ -119,7 +119,8 @@ module _ (m : List ℕ) where
   pub held_none : (e : ℕ) → held_first m 0 e ≡ 0
   held_none e = total_nil (held_in e)
 
-  pub held_more : (i : ℕ) → i < record_count → (e : ℕ) → held_first m i e + held_in e (view_record (record_part m i)) ≡ held_first m (i + 1) e
+  pub held_more : (i : ℕ) → i < record_count → (e : ℕ)
+      → held_first m i e + held_in e (view_record (record_part m i)) ≡ held_first m (i + 1) e
   held_more i h e =
       ap (λ (x : RecordState). held_first m i e + held_in e x) (sym (record_shown m i h))
       ∙ sym (total_more (held_in e) (view m).records i free_record (omega (arith, records_shown m)))

@@ -92,7 +92,11 @@ shown_within m s r = go (record_at (view m) r) (s.state_sound.S1.records_within 
 
 -- the environment that is loaded is within the limits, whatever the record is
 pub held_small : (m : List ℕ) (s : SoundMemory m) (r : ℕ) {x : Registers} → Loads m r x → x.environment_count ≤ environment_depth
-held_small m s r f = omega (arith, (by_fields (shown_by m r) (loaded m s r f)).environment_count_is, (shown_within m s r).environment_within)
+held_small m s r f = omega (
+  arith,
+  (by_fields (shown_by m r) (loaded m s r f)).environment_count_is,
+  (shown_within m s r).environment_within,
+)
 
 -- ---- a running record of a sound memory
 

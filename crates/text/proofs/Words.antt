@@ -122,12 +122,14 @@ same_shorter (x ∷ a) (y ∷ b) n = go (eqb x y) (same_shorter a b (λ e. n (ap
 pub same_passed : (a b : List ℕ) (i : ℕ) → i < length a → i < length b → same_bytes a b ≡ same_bytes (drop i a) (drop i b)
     → get_or a i 0 ≡ get_or b i 0 → same_bytes a b ≡ same_bytes (drop (i + 1) a) (drop (i + 1) b)
 same_passed a b i h k e s =
-    e ∙ rw (add-one, drop-cons a i 0 h, drop-cons b i 0 k) (same_first (get_or a i 0) (get_or b i 0) _ _ (eq-eqb (get_or a i 0) (get_or b i 0) s))
+    e ∙ rw (add-one, drop-cons a i 0 h, drop-cons b i 0 k) (same_first (get_or a i 0) (get_or b i 0) _ _
+    (eq-eqb (get_or a i 0) (get_or b i 0) s))
 
 pub same_other : (a b : List ℕ) (i : ℕ) → i < length a → i < length b → same_bytes a b ≡ same_bytes (drop i a) (drop i b)
     → (get_or a i 0 ≡ get_or b i 0 → ⊥) → false ≡ same_bytes a b
 same_other a b i h k e s =
-    sym (e ∙ rw (drop-cons a i 0 h, drop-cons b i 0 k) (other_first (get_or a i 0) (get_or b i 0) _ _ (ne_eqb (get_or a i 0) (get_or b i 0) s)))
+    sym (e ∙ rw (drop-cons a i 0 h, drop-cons b i 0 k) (other_first (get_or a i 0) (get_or b i 0) _ _
+    (ne_eqb (get_or a i 0) (get_or b i 0) s)))
 
 pub same_all : (a b : List ℕ) (i : ℕ) → length a ≤ i → length b ≤ i → same_bytes a b ≡ same_bytes (drop i a) (drop i b)
     → true ≡ same_bytes a b

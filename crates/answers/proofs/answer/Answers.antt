@@ -47,7 +47,8 @@ room c {x} is =
 
 -- and it is what the line asks for
 given : (c : After-parse) {x : Command} → c.parse.result ≡ x → {printed left : List ℕ} {r : ℕ}
-    → Written (out c) 0 (answer_text (line c) (state c) (meaning (bytes c) x)) printed r → left ≡ state_after (state c) (meaning (bytes c) x)
+    → Written (out c) 0 (answer_text (line c) (state c) (meaning (bytes c) x)) printed r
+    → left ≡ state_after (state c) (meaning (bytes c) x)
     → Written (out c) 0 (answer_text (line c) (state c) (asked (line c))) printed r
     × ((left ≡ state_after (state c) (asked (line c))) × (r ≤ output_size))
 given c {x} is says leaves = answer_given (line c) (state c) (meaning (bytes c) x) (asks c is) (size c) says leaves

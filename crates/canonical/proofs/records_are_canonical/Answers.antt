@@ -20,7 +20,8 @@ pub returns-then-not-record_is_canonical : goal.returns-then-not-record_is_canon
 returns-then-not-record_is_canonical c =
     let m = c.args.m.now in
     let i = c.loop-i.i in
-    turn_fails (record_test m) i (tested m i c.record_is_canonical.ensures) record_count (omega arith) (ap not c.if-not-record_is_canonical.true)
+    turn_fails (record_test m) i (tested m i c.record_is_canonical.ensures) record_count (omega arith)
+    (ap not c.if-not-record_is_canonical.true)
 
 pub loop-i-preserved : goal.loop-i-preserved
 loop-i-preserved c =

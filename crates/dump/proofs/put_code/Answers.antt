@@ -26,7 +26,8 @@ pub put_bytes_of-shown-requires : goal.put_bytes_of-shown-requires
 put_bytes_of-shown-requires c =
     let code = code_text (view c.args.m.now).code in
     let put = c.put_bytes-named in
-    room_as put.result _ code put.new.out (ap code_text c.code.ensures) (room_rest code (two (goal.at.put_bytes_of-shown-requires c).Start) put.ensures)
+    room_as put.result _ code put.new.out (ap code_text c.code.ensures)
+    (room_rest code (two (goal.at.put_bytes_of-shown-requires c).Start) put.ensures)
 
 pub put_letter-requires : goal.put_letter-requires
 put_letter-requires c =

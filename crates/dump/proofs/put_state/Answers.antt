@@ -44,7 +44,8 @@ put_code-behind_code-requires c =
     let lines = records_text (view m).records in
     record {
       m_len = (memory_length m s, s);
-      text_of_in_bounds = room_first a.at (through_code (view m)) lines a.out.now (records-room (goal.at.put_code-behind_code-requires c).Start);
+      text_of_in_bounds = room_first a.at (through_code (view m)) lines a.out.now
+          (records-room (goal.at.put_code-behind_code-requires c).Start);
     }
 
 pub put_records-behind_records-requires : goal.put_records-behind_records-requires
@@ -53,7 +54,8 @@ put_records-behind_records-requires c =
     let s = c.requires.sound_memory in
     record {
       m_len = (memory_length m s, s);
-      m_in_bounds = room_rest (records_text (view m).records) (records-room (goal.at.put_records-behind_records-requires c).Start) c.put_code-behind_code.ensures;
+      m_in_bounds = room_rest (records_text (view m).records) (records-room (goal.at.put_records-behind_records-requires c).Start)
+          c.put_code-behind_code.ensures;
     }
 
 pub put_ends-behind_ends-requires : goal.put_ends-behind_ends-requires

@@ -49,7 +49,8 @@ loop-i-preserved c =
     let k = run (goal.at.loop-i-preserved c).After-least-stop (stated (goal.at.loop-i-preserved c).After-code_length-end) in
     let k' = rw (stated (goal.at.loop-i-preserved c).After-code_length-end) at k in
     let test = c.loop-i-test.true in
-    let here = next_run a.image.now (right (goal.at.loop-i-preserved c).Start) a.out.now a.at l.i l.p q test k' l.invariant.3 c.copy.ensures in
+    let here = next_run a.image.now (right (goal.at.loop-i-preserved c).Start) a.out.now a.at l.i l.p q test k'
+    l.invariant.3 c.copy.ensures in
     (omega arith, omega arith, omega arith, here)
 
 pub returns : goal.returns

@@ -27,12 +27,14 @@ left-2 : (c : Else-count-eq0) (left-1_here : Left c.before.before.before.before 
 unfolding read_causes
 left-2 c left-1_here = passed left-1_here (ne_eqb (blocks_in c.args.image.now) 0 c.if-count-eq0.false)
 
-left-3 : (c : Else-count-gt-BLOCK_LIMIT) (left-2_here : Left c.before.before.before.before.before 2) → Left c.before.before.before.before.before 3
+left-3 : (c : Else-count-gt-BLOCK_LIMIT) (left-2_here : Left c.before.before.before.before.before 2)
+    → Left c.before.before.before.before.before 3
 unfolding read_causes
 left-3 c left-2_here =
     passed left-2_here (le-ltb block_limit (blocks_in c.args.image.now) c.if-count-gt-BLOCK_LIMIT.false)
 
-left-4 : (c : Else-any_check_wrong) (left-3_here : Left c.before.before.before.before.before.before.before 3) → Left c.before.before.before.before.before.before.before 4
+left-4 : (c : Else-any_check_wrong) (left-3_here : Left c.before.before.before.before.before.before.before 3)
+    → Left c.before.before.before.before.before.before.before 4
 unfolding read_causes
 left-4 c left-3_here = passed left-3_here (sym c.any_check_wrong.ensures ∙ c.if-any_check_wrong.false)
 
@@ -40,24 +42,33 @@ pub returns-then-count-image : goal.returns-then-count-image
 unfolding read_causes
 returns-then-count-image c =
     let image = c.args.image.now in
-    wrong (goal.at.returns-then-count-image c).Start none_passed (ap not (ne_eqb (block_size * blocks_in image) (length image) c.if-count-image.true))
+    wrong (goal.at.returns-then-count-image c).Start none_passed
+    (ap not (ne_eqb (block_size * blocks_in image) (length image) c.if-count-image.true))
 
 pub returns-then-count-eq0 : goal.returns-then-count-eq0
 unfolding read_causes
 returns-then-count-eq0 c =
-    wrong (goal.at.returns-then-count-eq0 c).Start (left-1 (goal.at.returns-then-count-eq0 c).Else-count-image) (eq-eqb (blocks_in c.args.image.now) 0 c.if-count-eq0.true)
+    wrong (goal.at.returns-then-count-eq0 c).Start (left-1 (goal.at.returns-then-count-eq0 c).Else-count-image)
+    (eq-eqb (blocks_in c.args.image.now) 0 c.if-count-eq0.true)
 
 pub returns-then-count-gt-BLOCK_LIMIT : goal.returns-then-count-gt-BLOCK_LIMIT
 unfolding read_causes
 returns-then-count-gt-BLOCK_LIMIT c =
-    wrong (goal.at.returns-then-count-gt-BLOCK_LIMIT c).Start (left-2 (goal.at.returns-then-count-gt-BLOCK_LIMIT c).Else-count-eq0 (left-1 (goal.at.returns-then-count-gt-BLOCK_LIMIT c).Else-count-image)) (lt-ltb block_limit (blocks_in c.args.image.now) c.if-count-gt-BLOCK_LIMIT.true)
+    wrong (goal.at.returns-then-count-gt-BLOCK_LIMIT c).Start (left-2 (goal.at.returns-then-count-gt-BLOCK_LIMIT c).Else-count-eq0
+    (left-1 (goal.at.returns-then-count-gt-BLOCK_LIMIT c).Else-count-image)) (lt-ltb block_limit (blocks_in c.args.image.now)
+    c.if-count-gt-BLOCK_LIMIT.true)
 
 pub returns-then-any_check_wrong : goal.returns-then-any_check_wrong
 unfolding read_causes
 returns-then-any_check_wrong c =
-    wrong (goal.at.returns-then-any_check_wrong c).Start (left-3 (goal.at.returns-then-any_check_wrong c).Else-count-gt-BLOCK_LIMIT (left-2 (goal.at.returns-then-any_check_wrong c).Else-count-eq0 (left-1 (goal.at.returns-then-any_check_wrong c).Else-count-image))) (sym c.any_check_wrong.ensures ∙ c.if-any_check_wrong.true)
+    wrong (goal.at.returns-then-any_check_wrong c).Start (left-3 (goal.at.returns-then-any_check_wrong c).Else-count-gt-BLOCK_LIMIT
+    (left-2 (goal.at.returns-then-any_check_wrong c).Else-count-eq0 (left-1 (goal.at.returns-then-any_check_wrong c).Else-count-image)))
+    (sym c.any_check_wrong.ensures ∙ c.if-any_check_wrong.true)
 
 pub returns : goal.returns
 unfolding read_image
 returns c =
-    c.read_data.ensures ∙ ap length_read (sym (left-4 (goal.at.returns c).Else-any_check_wrong (left-3 (goal.at.returns c).Else-count-gt-BLOCK_LIMIT (left-2 (goal.at.returns c).Else-count-eq0 (left-1 (goal.at.returns c).Else-count-image)))).left)
+    c.read_data.ensures
+    ∙ ap length_read
+    (sym (left-4 (goal.at.returns c).Else-any_check_wrong (left-3 (goal.at.returns c).Else-count-gt-BLOCK_LIMIT
+    (left-2 (goal.at.returns c).Else-count-eq0 (left-1 (goal.at.returns c).Else-count-image)))).left)

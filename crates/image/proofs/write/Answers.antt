@@ -17,13 +17,15 @@ left-1 : (c : Else-length-eq0) → Left c.before.before.before.before.before 1
 unfolding write_causes
 left-1 c = passed none_passed (ne_eqb (length c.args.code.now) 0 c.if-length-eq0.false)
 
-left-2 : (c : Else-length-gt-CODE_LIMIT) (left-1_here : Left c.before.before.before.before.before.before 1) → Left c.before.before.before.before.before.before 2
+left-2 : (c : Else-length-gt-CODE_LIMIT) (left-1_here : Left c.before.before.before.before.before.before 1)
+    → Left c.before.before.before.before.before.before 2
 unfolding write_causes
 left-2 c left-1_here =
     let code = c.args.code.now in
     passed left-1_here (le-ltb code_limit (length code) c.if-length-gt-CODE_LIMIT.false)
 
-left-3 : (c : Else-out-size) (left-2_here : Left c.before.before.before.before.before.before.before 2) → Left c.before.before.before.before.before.before.before 3
+left-3 : (c : Else-out-size) (left-2_here : Left c.before.before.before.before.before.before.before 2)
+    → Left c.before.before.before.before.before.before.before 3
 unfolding write_causes
 left-3 c left-2_here =
     let a = c.args in
@@ -52,7 +54,8 @@ unfolding write_answer write_causes
 returns-then-length-gt-CODE_LIMIT c =
     let a = c.args in
     let told = write_refused a.code.now a.out.now
-    (stopped (left-1 (goal.at.returns-then-length-gt-CODE_LIMIT c).Else-length-eq0) (lt-ltb code_limit (length a.code.now) c.if-length-gt-CODE_LIMIT.true)) in
+    (stopped (left-1 (goal.at.returns-then-length-gt-CODE_LIMIT c).Else-length-eq0)
+    (lt-ltb code_limit (length a.code.now) c.if-length-gt-CODE_LIMIT.true)) in
     record {
       number = told.0;
       memory = told.1.0;
@@ -65,7 +68,9 @@ returns-then-out-size c =
     let a = c.args in
     let n = block_size * block_count (length a.code.now) in
     let short = lt-ltb (length a.out.now) n (rw c.block_count-count.ensures at c.if-out-size.true) in
-    let told = write_refused a.code.now a.out.now (stopped (left-2 (goal.at.returns-then-out-size c).Else-length-gt-CODE_LIMIT (left-1 (goal.at.returns-then-out-size c).Else-length-eq0)) short) in
+    let told = write_refused a.code.now a.out.now
+    (stopped (left-2 (goal.at.returns-then-out-size c).Else-length-gt-CODE_LIMIT
+    (left-1 (goal.at.returns-then-out-size c).Else-length-eq0)) short) in
     record {
       number = told.0;
       memory = told.1.0;
@@ -86,7 +91,9 @@ write_blocks-requires c =
 pub returns : goal.returns
 returns c =
     let a = c.args in
-    let told = write_done a.code.now a.out.now (left-3 (goal.at.returns c).Else-out-size (left-2 (goal.at.returns c).Else-length-gt-CODE_LIMIT (left-1 (goal.at.returns c).Else-length-eq0))) c.block_count-count.ensures c.write_blocks.ensures in
+    let told = write_done a.code.now a.out.now (left-3 (goal.at.returns c).Else-out-size
+    (left-2 (goal.at.returns c).Else-length-gt-CODE_LIMIT (left-1 (goal.at.returns c).Else-length-eq0)))
+    c.block_count-count.ensures c.write_blocks.ensures in
     record {
       number = told.0;
       memory = told.1.0;

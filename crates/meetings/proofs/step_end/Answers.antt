@@ -87,7 +87,8 @@ returns-in_default-head c =
     let own = head-here (goal.at.returns-in_default-head c).After-head ∙ ap head_in c.in-Item.is in
     let empty = head-there (goal.at.returns-in_default-head c).After-head-2 ∙ ap head_in c.in_default-head.is in
     refused_step 17
-    (partner_empty (view c.args.m.now) e within (in_use (goal.at.returns-in_default-head c).Else-is_free) _ (partner-here (goal.at.returns-in_default-head c).After-partner-f).0 own empty)
+    (partner_empty (view c.args.m.now) e within (in_use (goal.at.returns-in_default-head c).Else-is_free) _
+    (partner-here (goal.at.returns-in_default-head c).After-partner-f).0 own empty)
 
 pub meet-requires : goal.meet-requires
 meet-requires c =
@@ -104,5 +105,6 @@ returns c =
     let within = lt-leb end_count e c.if-end.false in
     let own = head-here (goal.at.returns c).After-head ∙ ap head_in c.in-Item.is in
     let other = head-there (goal.at.returns c).After-head-2 ∙ ap head_in c.in-Item-head.is in
-    promised_as _ (both_head (view c.args.m.now) e within (in_use (goal.at.returns c).Else-is_free) _ (partner-here (goal.at.returns c).After-partner-f).0 own other)
+    promised_as _ (both_head (view c.args.m.now) e within (in_use (goal.at.returns c).Else-is_free) _
+    (partner-here (goal.at.returns c).After-partner-f).0 own other)
     c.meet.ensures

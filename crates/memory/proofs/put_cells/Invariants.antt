@@ -7,7 +7,8 @@ use Rattle.words.specs.Parts.{put_at}
 use Rattle.memory.proofs.put_cells.Given as goal
 
 abbrev pub invariant-loop-k : goal.invariant-loop-k
-invariant-loop-k l = (l.k ≤ cell_count) × (length l.m ≡ length l.initial.m) × (l.m ≡ put_at l.initial.m queues_at (flat (bytes_of cell_size) (take l.k l.cells)))
+invariant-loop-k l = (l.k ≤ cell_count) × (length l.m ≡ length l.initial.m)
+    × (l.m ≡ put_at l.initial.m queues_at (flat (bytes_of cell_size) (take l.k l.cells)))
 
 abbrev pub decreases-loop-k : goal.decreases-loop-k
 decreases-loop-k l = cell_count - l.k

@@ -35,7 +35,8 @@ returns c g is =
     let m = c.args.m.now in
     let s = c.requires.0 in
     let x = held_is m s _ g is c.load-held.ensures in
-    let room = lt-leb environment_depth (length g.environment) (omega (arith, c.if-held-ge16.false, (by_fields g x).environment_count_is)) in
+    let room = lt-leb environment_depth (length g.environment) (omega (arith, c.if-held-ge16.false, (by_fields g x).environment_count_is))
+    in
     let within = (registers_ok m s _ g is).stack_within in
     let moved = c.at.ensures (stored g) (c.store-stored.ensures.value g within x) in
     done_step m _ (store_done (view m) _ _ g (enough g x 1 c.if-held-lt1.false) room)

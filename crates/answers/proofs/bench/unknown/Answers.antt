@@ -28,7 +28,14 @@ pub put_bytes-requires : goal.put_bytes-requires
 put_bytes-requires c =
     let line = c.args.line.now in
     let p = c.put_bytes-word.ensures.place in
-    omega (arith, unknown_length line, ap length (word (goal.at.put_bytes-requires c).After-front), c.requires, p, c.put_bytes-end.ensures.place)
+    omega (
+      arith,
+      unknown_length line,
+      ap length (word (goal.at.put_bytes-requires c).After-front),
+      c.requires,
+      p,
+      c.put_bytes-end.ensures.place,
+    )
 
 pub returns : goal.returns
 unfolding text

@@ -52,7 +52,8 @@ put_hex_line-requires c =
     let code = c.args.code.now in
     let e = ap length (done (goal.at.put_hex_line-requires c).In-Done).text_is in
     let parts = length-append (number_line (text "write ") 0) (hex_line (image_of code)) in
-    let f = ap (λ (bytes : List ℕ). length (hex_line bytes)) (front (goal.at.put_hex_line-requires c).After-image_size-size (done (goal.at.put_hex_line-requires c).In-Done)) in
+    let f = ap (λ (bytes : List ℕ). length (hex_line bytes)) (front (goal.at.put_hex_line-requires c).After-image_size-size
+    (done (goal.at.put_hex_line-requires c).In-Done)) in
     omega (arith, e, parts, f, c.requires, c.put_number_line-behind.ensures.place)
 
 pub put_number_line-requires : goal.put_number_line-requires
@@ -65,7 +66,8 @@ put_number_line-requires c =
 pub returns-in-Done : goal.returns-in-Done
 unfolding text
 returns-in-Done c =
-    let hex = written_as (ap (λ (bytes : List ℕ). hex_line bytes) (front (goal.at.returns-in-Done c).After-image_size-size (done (goal.at.returns-in-Done c).In-Done))) c.put_hex_line.ensures in
+    let hex = written_as (ap (λ (bytes : List ℕ). hex_line bytes) (front (goal.at.returns-in-Done c).After-image_size-size
+    (done (goal.at.returns-in-Done c).In-Done))) c.put_hex_line.ensures in
     written_as (done (goal.at.returns-in-Done c).In-Done).text_is (written_more c.put_number_line-behind.ensures hex)
 
 pub returns-in-Refused : goal.returns-in-Refused

@@ -39,7 +39,12 @@ step_instruction-requires c =
     let p = c.requires in
     record {
       m_len = p.m_len;
-      sound_memory = (p.sound_memory.0, p.sound_memory.2, listed_in (view c.args.m.now).code _ c.in-Good.i c.in-Good.next (good (goal.at.step_instruction-requires c).In-Good));
+      sound_memory = (
+        p.sound_memory.0,
+        p.sound_memory.2,
+        listed_in (view c.args.m.now).code _ c.in-Good.i c.in-Good.next
+            (good (goal.at.step_instruction-requires c).In-Good),
+      );
     }
 
 pub returns-in-Bad : goal.returns-in-Bad
@@ -47,11 +52,13 @@ returns-in-Bad c =
     let m = c.args.m.now in
     let a = c.requires.sound_memory.2 in
     let bad = decoded_bad (view m).code _ _ _ c.code.ensures c.decode.ensures c.in-Bad.is in
-    refused_step 4 (no_instruction (view m) _ a.process a.runs (ap (decode (view m).code) (sym (placed (goal.at.returns-in-Bad c).After-place_of-place)) ∙ bad))
+    refused_step 4 (no_instruction (view m) _ a.process a.runs
+    (ap (decode (view m).code) (sym (placed (goal.at.returns-in-Bad c).After-place_of-place)) ∙ bad))
 
 pub returns-in-Good : goal.returns-in-Good
 returns-in-Good c =
     let m = c.args.m.now in
     let a = c.requires.sound_memory.2 in
-    let here = ap (decode (view m).code) (sym (placed (goal.at.returns-in-Good c).After-place_of-place)) ∙ good (goal.at.returns-in-Good c).In-Good in
+    let here = ap (decode (view m).code) (sym (placed (goal.at.returns-in-Good c).After-place_of-place))
+    ∙ good (goal.at.returns-in-Good c).In-Good in
     promised_as m (an_instruction (view m) _ a.process a.runs _ _ here) (c.step_instruction.ensures a.process a.runs)

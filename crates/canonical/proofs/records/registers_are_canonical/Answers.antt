@@ -10,11 +10,13 @@ use Rattle.canonical.proofs.records.registers_are_canonical.Goals as goal
 
 -- the count that was read is the record's
 stack-behind : (p : List ℕ) {n : ℕ} → n ≡ get_or p 3 0
-    → all_zero (part (stack_from + value_size * n) environment_from p) ≡ all_zero (part (stack_from + value_size * get_or p 3 0) environment_from p)
+    → all_zero (part (stack_from + value_size * n) environment_from p) ≡ all_zero
+    (part (stack_from + value_size * get_or p 3 0) environment_from p)
 stack-behind p e = ap (λ (k : ℕ). all_zero (part (stack_from + value_size * k) environment_from p)) e
 
 environment-behind : (p : List ℕ) {n : ℕ} → n ≡ get_or p 4 0
-    → all_zero (part (environment_from + value_size * n) record_size p) ≡ all_zero (part (environment_from + value_size * get_or p 4 0) record_size p)
+    → all_zero (part (environment_from + value_size * n) record_size p) ≡ all_zero
+    (part (environment_from + value_size * get_or p 4 0) record_size p)
 environment-behind p e = ap (λ (k : ℕ). all_zero (part (environment_from + value_size * k) record_size p)) e
 
 pub returns-then-stacked-gt-STACK_DEPTH : goal.returns-then-stacked-gt-STACK_DEPTH
@@ -52,6 +54,7 @@ returns c =
     let stack = sym (c.all_zero.ensures ∙ stack-behind p c.wide-stacked.ensures)
     ∙ c.if-not-all_zero.false in
     c.all_zero-2.ensures ∙ environment-behind p c.wide-bound.ensures
-    ∙ sym (last_decides (leb (get_or p 3 0) stack_depth ∷ leb (get_or p 4 0) environment_depth ∷ all slot_fits (part slots_from stack_from p)
+    ∙ sym (last_decides (leb (get_or p 3 0) stack_depth ∷ leb (get_or p 4 0) environment_depth ∷ all slot_fits
+    (part slots_from stack_from p)
     ∷ all_zero (part (stack_from + value_size * get_or p 3 0) environment_from p) ∷ [])
     (all_zero (part (environment_from + value_size * get_or p 4 0) record_size p)) (few, (few_bound, (slots, (stack, tt)))))

@@ -8,7 +8,8 @@ use Rattle.rules.specs.Sound.{RegistersWithin}
 use Rattle.registers.specs.Registers.{registers_of}
 use Rattle.causes.proofs.OwnRows.{OwnPassed, next, stop, through, stop_group, next_group}
 use Rattle.causes.proofs.channels.fork.Goals as goal
-use Rattle.causes.proofs.channels.fork.Goals.{Else-in_set, Else-in_set-2, Else-others_not_together, Else-overlap, Else-stack_not_empty, Else-wrong_slots, Start}
+use Rattle.causes.proofs.channels.fork.Goals.{Else-in_set, Else-in_set-2, Else-others_not_together, Else-overlap, Else-stack_not_empty}
+use Rattle.causes.proofs.channels.fork.Goals.{Else-wrong_slots, Start}
 
 -- the instruction
 abbrev this : Start → Instruction
@@ -27,7 +28,8 @@ slots s g = over s.args.c.0 ∷ over s.args.a.0 ∷ over s.args.b.0 ∷ empty s.
 pub returns-then-wrong_slots : goal.returns-then-wrong_slots
 unfolding own_causes
 returns-then-wrong_slots c g w e =
-    stop_group g (this (goal.at.returns-then-wrong_slots c).Start) 8 (slots (goal.at.returns-then-wrong_slots c).Start g) _ refl (c.wrong_slots.ensures.is g w e) c.if-wrong_slots.true
+    stop_group g (this (goal.at.returns-then-wrong_slots c).Start) 8 (slots (goal.at.returns-then-wrong_slots c).Start g) _ refl
+    (c.wrong_slots.ensures.is g w e) c.if-wrong_slots.true
 
 row-1 : (c : Else-wrong_slots) → At c.before.before 4
 unfolding own_causes
@@ -62,7 +64,8 @@ row-4 c g w e = next (row-3 c.before.before g w e) (c.overlap.ensures g.slots w.
 pub returns-then-others_not_together : goal.returns-then-others_not_together
 unfolding own_causes
 returns-then-others_not_together c g w e =
-    stop (row-4 (goal.at.returns-then-others_not_together c).Else-overlap g w e) (c.others_not_together.ensures g w e) c.if-others_not_together.true
+    stop (row-4 (goal.at.returns-then-others_not_together c).Else-overlap g w e) (c.others_not_together.ensures g w e)
+    c.if-others_not_together.true
 
 row-5 : (c : Else-others_not_together) → At c.before.before.before.before.before.before.before.before.before.before 8
 unfolding own_causes
@@ -71,7 +74,8 @@ row-5 c g w e = next (row-4 c.before.before g w e) (c.others_not_together.ensure
 pub returns-then-stack_not_empty : goal.returns-then-stack_not_empty
 unfolding own_causes
 returns-then-stack_not_empty c g w e =
-    stop (row-5 (goal.at.returns-then-stack_not_empty c).Else-others_not_together g w e) (c.stack_not_empty.ensures g w e) c.if-stack_not_empty.true
+    stop (row-5 (goal.at.returns-then-stack_not_empty c).Else-others_not_together g w e)
+    (c.stack_not_empty.ensures g w e) c.if-stack_not_empty.true
 
 row-6 : (c : Else-stack_not_empty) → At c.before.before.before.before.before.before.before.before.before.before.before.before 9
 unfolding own_causes

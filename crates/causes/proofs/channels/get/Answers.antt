@@ -18,7 +18,8 @@ row-0 s g w e = first g _
 
 pub returns-then-stack_full : goal.returns-then-stack_full
 unfolding own_causes
-returns-then-stack_full c g w e = stop (row-0 (goal.at.returns-then-stack_full c).Start g w e) (c.stack_full.ensures g w e) c.if-stack_full.true
+returns-then-stack_full c g w e = stop (row-0 (goal.at.returns-then-stack_full c).Start g w e)
+    (c.stack_full.ensures g w e) c.if-stack_full.true
 
 row-1 : (c : Else-stack_full) → At c.before.before 1
 unfolding own_causes

@@ -27,7 +27,8 @@ row-1 c g places w e = next (row-0 c.before.before g places w e) c.over.ensures 
 
 pub returns-then-empty : goal.returns-then-empty
 unfolding own_causes
-returns-then-empty c g places w e = stop (row-1 (goal.at.returns-then-empty c).Else-over g places w e) (c.empty.ensures g w e) c.if-empty.true
+returns-then-empty c g places w e = stop (row-1 (goal.at.returns-then-empty c).Else-over g places w e)
+    (c.empty.ensures g w e) c.if-empty.true
 
 row-2 : (c : Else-empty) → At c.before.before.before.before 2
 unfolding own_causes

@@ -25,7 +25,8 @@ slots s g = over s.args.c.0 ∷ over s.args.a.0 ∷ over s.args.b.0 ∷ empty s.
 pub returns-then-wrong_slots : goal.returns-then-wrong_slots
 unfolding own_causes
 returns-then-wrong_slots c g w e =
-    stop_group g (this (goal.at.returns-then-wrong_slots c).Start) 8 (slots (goal.at.returns-then-wrong_slots c).Start g) _ refl (c.wrong_slots.ensures.is g w e) c.if-wrong_slots.true
+    stop_group g (this (goal.at.returns-then-wrong_slots c).Start) 8 (slots (goal.at.returns-then-wrong_slots c).Start g) _ refl
+    (c.wrong_slots.ensures.is g w e) c.if-wrong_slots.true
 
 row-1 : (c : Else-wrong_slots) → At c.before.before 4
 unfolding own_causes

@@ -7,7 +7,8 @@ use Rattle.rules.specs.Sound.{RegistersWithin}
 use Rattle.registers.specs.Registers.{registers_of}
 use Rattle.causes.proofs.OwnRows.{OwnPassed, first, next, stop, through}
 use Rattle.causes.proofs.processes.plug.Goals as goal
-use Rattle.causes.proofs.processes.plug.Goals.{Else-in_set, Else-in_set-2, Else-not_together, Else-over, Else-overlap, Else-stack_not_empty, Start}
+use Rattle.causes.proofs.processes.plug.Goals.{Else-in_set, Else-in_set-2, Else-not_together, Else-over, Else-overlap, Else-stack_not_empty}
+use Rattle.causes.proofs.processes.plug.Goals.{Start}
 
 -- the instruction
 abbrev this : Start → Instruction
@@ -70,7 +71,8 @@ row-5 c g w e = next (row-4 c.before.before g w e) (c.not_together.ensures g w.s
 pub returns-then-stack_not_empty : goal.returns-then-stack_not_empty
 unfolding own_causes
 returns-then-stack_not_empty c g w e =
-    stop (row-5 (goal.at.returns-then-stack_not_empty c).Else-not_together g w e) (c.stack_not_empty.ensures g w e) c.if-stack_not_empty.true
+    stop (row-5 (goal.at.returns-then-stack_not_empty c).Else-not_together g w e)
+    (c.stack_not_empty.ensures g w e) c.if-stack_not_empty.true
 
 row-6 : (c : Else-stack_not_empty) → At (start-4 c.before.before.before.before) 6
 unfolding own_causes

@@ -28,18 +28,22 @@ row-1 c g place w e = next (row-0 c.before.before.before.before g place w e) (c.
 
 pub returns-then-any_over : goal.returns-then-any_over
 unfolding own_causes
-returns-then-any_over c g place w e = stop (row-1 (goal.at.returns-then-any_over c).Else-fewer g place w e) c.any_over.ensures c.if-any_over.true
+returns-then-any_over c g place w e = stop (row-1 (goal.at.returns-then-any_over c).Else-fewer g place w e)
+    c.any_over.ensures c.if-any_over.true
 
-row-2 : (c : Else-any_over) (row-1_here : At c.before.before.before.before.before.before 1) → At c.before.before.before.before.before.before 2
+row-2 : (c : Else-any_over) (row-1_here : At c.before.before.before.before.before.before 1)
+    → At c.before.before.before.before.before.before 2
 unfolding own_causes
 row-2 c row-1_here g place w e = next (row-1_here g place w e) c.any_over.ensures c.if-any_over.false
 
 pub returns-then-any_empty : goal.returns-then-any_empty
 unfolding own_causes
 returns-then-any_empty c g place w e =
-    stop (row-2 (goal.at.returns-then-any_empty c).Else-any_over (row-1 (goal.at.returns-then-any_empty c).Else-fewer) g place w e) (c.any_empty.ensures g w.slots_within e) c.if-any_empty.true
+    stop (row-2 (goal.at.returns-then-any_empty c).Else-any_over (row-1 (goal.at.returns-then-any_empty c).Else-fewer) g place w e)
+    (c.any_empty.ensures g w.slots_within e) c.if-any_empty.true
 
-row-3 : (c : Else-any_empty) (row-2_here : At c.before.before.before.before.before.before.before.before 2) → At c.before.before.before.before.before.before.before.before 3
+row-3 : (c : Else-any_empty) (row-2_here : At c.before.before.before.before.before.before.before.before 2)
+    → At c.before.before.before.before.before.before.before.before 3
 unfolding own_causes
 row-3 c row-2_here g place w e =
     next (row-2_here g place w e) (c.any_empty.ensures g w.slots_within e) c.if-any_empty.false
@@ -47,18 +51,23 @@ row-3 c row-2_here g place w e =
 pub returns-then-any_repeated : goal.returns-then-any_repeated
 unfolding own_causes
 returns-then-any_repeated c g place w e =
-    stop (row-3 (goal.at.returns-then-any_repeated c).Else-any_empty (row-2 (goal.at.returns-then-any_repeated c).Else-any_over (row-1 (goal.at.returns-then-any_repeated c).Else-fewer)) g place w e) c.any_repeated.ensures c.if-any_repeated.true
+    stop (row-3 (goal.at.returns-then-any_repeated c).Else-any_empty (row-2 (goal.at.returns-then-any_repeated c).Else-any_over
+    (row-1 (goal.at.returns-then-any_repeated c).Else-fewer)) g place w e) c.any_repeated.ensures c.if-any_repeated.true
 
-row-4 : (c : Else-any_repeated) (row-3_here : At c.before.before.before.before.before.before.before.before.before.before 3) → At c.before.before.before.before.before.before.before.before.before.before 4
+row-4 : (c : Else-any_repeated) (row-3_here : At c.before.before.before.before.before.before.before.before.before.before 3)
+    → At c.before.before.before.before.before.before.before.before.before.before 4
 unfolding own_causes
 row-4 c row-3_here g place w e = next (row-3_here g place w e) c.any_repeated.ensures c.if-any_repeated.false
 
 pub returns-then-any_held_but : goal.returns-then-any_held_but
 unfolding own_causes
 returns-then-any_held_but c g place w e =
-    stop (row-4 (goal.at.returns-then-any_held_but c).Else-any_repeated (row-3 (goal.at.returns-then-any_held_but c).Else-any_empty (row-2 (goal.at.returns-then-any_held_but c).Else-any_over (row-1 (goal.at.returns-then-any_held_but c).Else-fewer))) g place w e) (c.any_held_but.ensures g w.slots_within e) c.if-any_held_but.true
+    stop (row-4 (goal.at.returns-then-any_held_but c).Else-any_repeated (row-3 (goal.at.returns-then-any_held_but c).Else-any_empty
+    (row-2 (goal.at.returns-then-any_held_but c).Else-any_over (row-1 (goal.at.returns-then-any_held_but c).Else-fewer))) g place w e)
+    (c.any_held_but.ensures g w.slots_within e) c.if-any_held_but.true
 
-row-5 : (c : Else-any_held_but) (row-4_here : At c.before.before.before.before.before.before.before.before.before.before.before.before 4) → At c.before.before.before.before.before.before.before.before.before.before.before.before 5
+row-5 : (c : Else-any_held_but) (row-4_here : At c.before.before.before.before.before.before.before.before.before.before.before.before 4)
+    → At c.before.before.before.before.before.before.before.before.before.before.before.before 5
 unfolding own_causes
 row-5 c row-4_here g place w e =
     next (row-4_here g place w e) (c.any_held_but.ensures g w.slots_within e) c.if-any_held_but.false
@@ -66,4 +75,5 @@ row-5 c row-4_here g place w e =
 pub returns : goal.returns
 unfolding own_causes
 returns c g place w e =
-    through (row-5 c (row-4 (goal.at.returns c).Else-any_repeated (row-3 (goal.at.returns c).Else-any_empty (row-2 (goal.at.returns c).Else-any_over (row-1 (goal.at.returns c).Else-fewer)))) g place w e) refl
+    through (row-5 c (row-4 (goal.at.returns c).Else-any_repeated (row-3 (goal.at.returns c).Else-any_empty
+    (row-2 (goal.at.returns c).Else-any_over (row-1 (goal.at.returns c).Else-fewer)))) g place w e) refl

@@ -7,7 +7,8 @@ use Rattle.rules.specs.Sound.{RegistersWithin}
 use Rattle.registers.specs.Registers.{registers_of}
 use Rattle.causes.proofs.OwnRows.{OwnPassed, first, next, stop, through}
 use Rattle.causes.proofs.processes.same.Goals as goal
-use Rattle.causes.proofs.processes.same.Goals.{Else-empty, Else-empty-2, Else-others_than_both_held, Else-over, Else-over-2, Else-stack_not_empty, Start}
+use Rattle.causes.proofs.processes.same.Goals.{Else-empty, Else-empty-2, Else-others_than_both_held, Else-over, Else-over-2}
+use Rattle.causes.proofs.processes.same.Goals.{Else-stack_not_empty, Start}
 
 -- of the registers that the function is given, the rows before k do not hold
 abbrev At : Start → ℕ → Type 0
@@ -54,7 +55,8 @@ row-4 c g w e = next (row-3 c.before.before g w e) (c.empty-2.ensures g w e) c.i
 pub returns-then-others_than_both_held : goal.returns-then-others_than_both_held
 unfolding own_causes
 returns-then-others_than_both_held c g w e =
-    stop (row-4 (goal.at.returns-then-others_than_both_held c).Else-empty-2 g w e) (c.others_than_both_held.ensures g w e) c.if-others_than_both_held.true
+    stop (row-4 (goal.at.returns-then-others_than_both_held c).Else-empty-2 g w e) (c.others_than_both_held.ensures g w e)
+    c.if-others_than_both_held.true
 
 row-5 : (c : Else-others_than_both_held) → At c.before.before.before.before.before.before.before.before.before.before 5
 unfolding own_causes
@@ -63,7 +65,8 @@ row-5 c g w e = next (row-4 c.before.before g w e) (c.others_than_both_held.ensu
 pub returns-then-stack_not_empty : goal.returns-then-stack_not_empty
 unfolding own_causes
 returns-then-stack_not_empty c g w e =
-    stop (row-5 (goal.at.returns-then-stack_not_empty c).Else-others_than_both_held g w e) (c.stack_not_empty.ensures g w e) c.if-stack_not_empty.true
+    stop (row-5 (goal.at.returns-then-stack_not_empty c).Else-others_than_both_held g w e)
+    (c.stack_not_empty.ensures g w e) c.if-stack_not_empty.true
 
 row-6 : (c : Else-stack_not_empty) → At (start-4 c.before.before.before.before) 6
 unfolding own_causes

@@ -30,8 +30,12 @@ returns-then-queued-ge-QUEUE_DEPTH c r g h =
 
 pub append-requires : goal.append-requires
 append-requires c =
-    let room = c.queued.ensures.value in
-    (memory_length _ c.requires.sound, within (goal.at.append-requires c).After-own_end-end, omega (arith, c.if-queued-ge-QUEUE_DEPTH.false, room))
+    let room = c.queued.ensures.value in (
+      memory_length _ c.requires.sound,
+      within (goal.at.append-requires c).After-own_end-end,
+      omega
+          (arith, c.if-queued-ge-QUEUE_DEPTH.false, room),
+    )
 
 pub returns : goal.returns
 returns c r g h =

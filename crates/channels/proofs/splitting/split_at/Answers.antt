@@ -30,7 +30,8 @@ pub returns-then-queued-ge-QUEUE_DEPTH : goal.returns-then-queued-ge-QUEUE_DEPTH
 returns-then-queued-ge-QUEUE_DEPTH c g h =
     let a = c.args in
     let s = c.requires.holds_end.sound in
-    let is_full = full s h _ (here (goal.at.returns-then-queued-ge-QUEUE_DEPTH c).After-own_end-end g h) c.queued.ensures.value_2 c.if-queued-ge-QUEUE_DEPTH.true in
+    let is_full = full s h _ (here (goal.at.returns-then-queued-ge-QUEUE_DEPTH c).After-own_end-end g h) c.queued.ensures.value_2
+    c.if-queued-ge-QUEUE_DEPTH.true in
     record { shared = refused_step 13 (split_full (view a.m.now) _ _ g _ _ _ is_full) }
 
 pub free_word-free-requires : goal.free_word-free-requires
@@ -46,8 +47,10 @@ pub returns-then-count-lt4 : goal.returns-then-count-lt4
 returns-then-count-lt4 c g h =
     let a = c.args in
     let s = c.requires.holds_end.sound in
-    let room = not_full s h _ (here (goal.at.returns-then-count-lt4 c).After-own_end-end g h) c.queued.ensures.value_2 c.if-queued-ge-QUEUE_DEPTH.false in
-    let too_few = few_ends _ (memory_sized _ s) _ (word_is (goal.at.returns-then-count-lt4 c).After-free_word-free) c.count.ensures 4 c.if-count-lt4.true in
+    let room = not_full s h _ (here (goal.at.returns-then-count-lt4 c).After-own_end-end g h) c.queued.ensures.value_2
+    c.if-queued-ge-QUEUE_DEPTH.false in
+    let too_few = few_ends _ (memory_sized _ s) _ (word_is (goal.at.returns-then-count-lt4 c).After-free_word-free)
+    c.count.ensures 4 c.if-count-lt4.true in
     record { shared = refused_step 15 (split_few (view a.m.now) _ _ g _ _ _ room too_few) }
 
 -- the four ends are the lowest free ones

@@ -89,13 +89,21 @@ byte_at-requires-in-24 c = omega (arith, room (goal.at.byte_at-requires-in-24 c)
 
 pub hcase_at-requires : goal.hcase_at-requires
 unfolding form_of form_in
-hcase_at-requires c =
-    (begins (goal.at.hcase_at-requires c).Start 0x19 c.in-25.is, ends (goal.at.hcase_at-requires c).Start 0x19 refl c.in-25.is, c.requires.next_value.1)
+hcase_at-requires c = (
+  begins (goal.at.hcase_at-requires c).Start 0x19 c.in-25.is,
+  ends (goal.at.hcase_at-requires c).Start 0x19 refl
+      c.in-25.is,
+  c.requires.next_value.1,
+)
 
 pub run_at-requires : goal.run_at-requires
 unfolding form_of form_in
-run_at-requires c =
-    (begins (goal.at.run_at-requires c).Start 0x1A c.in-26.is, ends (goal.at.run_at-requires c).Start 0x1A refl c.in-26.is, c.requires.next_value.1)
+run_at-requires c = (
+  begins (goal.at.run_at-requires c).Start 0x1A c.in-26.is,
+  ends (goal.at.run_at-requires c).Start 0x1A refl
+      c.in-26.is,
+  c.requires.next_value.1,
+)
 
 -- ---- answers
 pub returns-in-1 : goal.returns-in-1

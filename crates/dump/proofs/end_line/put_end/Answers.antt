@@ -61,12 +61,14 @@ put_queue-queue-requires c =
     let a = c.args in
     record {
       m_len = c.requires.m_len;
-      e_in_bounds = room_rest (list_text (item_texts (end_at (view a.m.now) a.e))) (two (goal.at.put_queue-queue-requires c).After-partner) c.put_head-head.ensures;
+      e_in_bounds = room_rest (list_text (item_texts (end_at (view a.m.now) a.e)))
+          (two (goal.at.put_queue-queue-requires c).After-partner) c.put_head-head.ensures;
     }
 
 pub put_letter-requires : goal.put_letter-requires
 put_letter-requires c =
-    room_rest (10 ∷ []) (whole (goal.at.put_letter-requires c).After-partner) (written_more c.put_head-head.ensures c.put_queue-queue.ensures)
+    room_rest (10 ∷ []) (whole (goal.at.put_letter-requires c).After-partner)
+    (written_more c.put_head-head.ensures c.put_queue-queue.ensures)
 
 pub returns : goal.returns
 returns c =

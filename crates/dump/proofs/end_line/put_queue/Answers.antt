@@ -50,7 +50,13 @@ put_dash-requires c =
     let a = c.args in
     let all = item_texts (end_at (view a.m.now) a.e) in
     let l = c.loop-k in
-    let enough : length all ≡ l.k = omega (arith, c.loop-k-test.false, l.invariant.0, counted (goal.at.put_dash-requires c).After-queued-count) in
+    let enough : length all ≡ l.k = omega (
+      arith,
+      c.loop-k-test.false,
+      l.invariant.0,
+      counted
+          (goal.at.put_dash-requires c).After-queued-count,
+    ) in
     index_dash_room all l.k l.invariant.2 enough c.requires.e_in_bounds
 
 pub returns : goal.returns

@@ -19,7 +19,8 @@ loop-c-init c =
 pub put_slot-next-requires : goal.put_slot-next-requires
 put_slot-next-requires c =
     let l = c.loop-c in
-    slot_room_lem c.args.slots l.c l.invariant.2 (eight (goal.at.put_slot-next-requires c).Start) c.loop-c-test.true c.if-slots-c-ne0.true c.requires
+    slot_room_lem c.args.slots l.c l.invariant.2 (eight (goal.at.put_slot-next-requires c).Start) c.loop-c-test.true
+    c.if-slots-c-ne0.true c.requires
 
 pub loop-c-preserved : goal.loop-c-preserved
 loop-c-preserved c =
@@ -29,7 +30,8 @@ loop-c-preserved c =
     let more : SlotsSoFar a.out.now a.at a.slots c.if-slots-c-ne0.out c.if-slots-c-ne0.next c.if-slots-c-ne0.shown (l.c + 1) =
     elim c.if-slots-c-ne0.branch [
       | then-slots-c-ne0 w ↦ slots_as w.out-is w.next-is w.shown-is
-          (slot_held a.slots l.c l.invariant.2 (eight (goal.at.loop-c-preserved c).Start) below w.if-slots-c-ne0.true w.put_slot-next.ensures)
+          (slot_held a.slots l.c l.invariant.2 (eight (goal.at.loop-c-preserved c).Start) below
+          w.if-slots-c-ne0.true w.put_slot-next.ensures)
       | else-slots-c-ne0 w ↦ slots_as w.out-is w.next-is w.shown-is
           (slot_empty a.slots l.c l.invariant.2 (eight (goal.at.loop-c-preserved c).Start) below w.if-slots-c-ne0.false)
     ] in
@@ -38,7 +40,8 @@ loop-c-preserved c =
 pub put_dash-requires : goal.put_dash-requires
 put_dash-requires c =
     let l = c.loop-c in
-    slots_dash_room c.args.slots l.c l.invariant.2 (omega (arith, eight (goal.at.put_dash-requires c).Start, c.loop-c-test.false)) c.requires
+    slots_dash_room c.args.slots l.c l.invariant.2 (omega (arith, eight (goal.at.put_dash-requires c).Start, c.loop-c-test.false))
+    c.requires
 
 pub returns : goal.returns
 returns c =

@@ -35,14 +35,16 @@ pub put_decimal-placed-requires : goal.put_decimal-placed-requires
 put_decimal-placed-requires c =
     let a = c.args in
     let g = process_in a.g in
-    room_first a.at (decimal g.place) (stack_part (values_text g.stack)) a.out.now (stack_room (goal.at.put_decimal-placed-requires c).Start)
+    room_first a.at (decimal g.place) (stack_part (values_text g.stack)) a.out.now
+    (stack_room (goal.at.put_decimal-placed-requires c).Start)
 
 pub put_named_values-stacked-requires : goal.put_named_values-stacked-requires
 put_named_values-stacked-requires c =
     let g = process_in c.args.g in
     record {
       count_le_stack_depth = c.requires.stack_count_bound.0;
-      values_in_bounds = room_rest (stack_part (values_text g.stack)) (stack_room (goal.at.put_named_values-stacked-requires c).Start) c.put_decimal-placed.ensures;
+      values_in_bounds = room_rest (stack_part (values_text g.stack)) (stack_room (goal.at.put_named_values-stacked-requires c).Start)
+          c.put_decimal-placed.ensures;
     }
 
 pub put_named_values-both-requires : goal.put_named_values-both-requires
@@ -51,7 +53,8 @@ put_named_values-both-requires c =
     let written = written_more c.put_decimal-placed.ensures c.put_named_values-stacked.ensures in
     record {
       count_le_stack_depth = c.requires.stack_count_bound.1;
-      values_in_bounds = room_rest (environment_part (values_text g.environment)) (environment-room (goal.at.put_named_values-both-requires c).Start) written;
+      values_in_bounds = room_rest (environment_part (values_text g.environment))
+          (environment-room (goal.at.put_named_values-both-requires c).Start) written;
     }
 
 pub put_bytes-named-requires : goal.put_bytes-named-requires

@@ -4,7 +4,8 @@ use Rattle.rules.specs.Image.{block_size, any_check_wrong}
 use Rattle.image.proofs.reading.any_check_wrong.Given as goal
 
 abbrev pub invariant-loop-i : goal.invariant-loop-i
-invariant-loop-i l = (l.i ≤ l.count) × ((n : ℕ) → l.i + n ≡ l.count → any_check_wrong l.count l.image ≡ any_check_wrong n (drop (block_size * l.i) l.image))
+invariant-loop-i l = (l.i ≤ l.count)
+    × ((n : ℕ) → l.i + n ≡ l.count → any_check_wrong l.count l.image ≡ any_check_wrong n (drop (block_size * l.i) l.image))
 
 abbrev pub decreases-loop-i : goal.decreases-loop-i
 decreases-loop-i l = l.count - l.i

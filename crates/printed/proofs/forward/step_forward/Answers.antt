@@ -27,4 +27,5 @@ pub returns-in-At : goal.returns-in-At
 returns-in-At c =
     let a = c.args in
     stepped a.m.now a.position (told c.step_from.ensures c.in-At.is) c.printed_at.result
-    (subst (λ (m : List ℕ). PrintsAt (view m) c.in-At.p c.printed_at.result) (copied (goal.at.returns-in-At c).After-copy) c.printed_at.ensures)
+    (subst (λ (m : List ℕ). PrintsAt (view m) c.in-At.p c.printed_at.result)
+    (copied (goal.at.returns-in-At c).After-copy) c.printed_at.ensures)

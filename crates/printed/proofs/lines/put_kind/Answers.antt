@@ -34,14 +34,17 @@ pub put_signed-requires : goal.put_signed-requires
 put_signed-requires c =
     let a = c.args in
     let whole = room_as a.at _ _ a.out.now (numbered (goal.at.put_signed-requires c).Then-is_numbered) c.requires in
-    rw (to_z-of_z {w = w32} {z = a.number} c.ranges.number) (room_rest (signed_decimal a.number) whole (worded (goal.at.put_signed-requires c).After-put_word-behind))
+    rw (to_z-of_z {w = w32} {z = a.number} c.ranges.number) (room_rest (signed_decimal a.number) whole
+    (worded (goal.at.put_signed-requires c).After-put_word-behind))
 
 pub returns-then-is_numbered : goal.returns-then-is_numbered
 returns-then-is_numbered c =
     let digits = rw (to_z-of_z {w = w32} {z = c.args.number} c.ranges.number) at c.put_signed.ensures in
-    written_as (numbered (goal.at.returns-then-is_numbered c).Then-is_numbered) (written_more (worded (goal.at.returns-then-is_numbered c).After-put_word-behind) digits)
+    written_as (numbered (goal.at.returns-then-is_numbered c).Then-is_numbered)
+    (written_more (worded (goal.at.returns-then-is_numbered c).After-put_word-behind) digits)
 
 pub returns : goal.returns
 returns c =
     let a = c.args in
-    written_as (plain_text a.kind a.number (sym c.is_numbered.ensures ∙ c.if-is_numbered.false)) (worded (goal.at.returns c).After-put_word-behind)
+    written_as (plain_text a.kind a.number (sym c.is_numbered.ensures ∙ c.if-is_numbered.false))
+    (worded (goal.at.returns c).After-put_word-behind)

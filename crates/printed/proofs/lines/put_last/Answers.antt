@@ -31,13 +31,15 @@ room-2 c =
 pub put_verdict-space-requires : goal.put_verdict-space-requires
 put_verdict-space-requires c =
     let a = c.args in
-    room_first a.at (verdict_text (verdict_in a.verdict)) ((32 ∷ []) ++ from_steps a.made a.next) a.out.now (whole (goal.at.put_verdict-space-requires c).Start)
+    room_first a.at (verdict_text (verdict_in a.verdict)) ((32 ∷ []) ++ from_steps a.made a.next) a.out.now
+    (whole (goal.at.put_verdict-space-requires c).Start)
 
 pub put_lettered-behind-requires : goal.put_lettered-behind-requires
 put_lettered-behind-requires c =
     let a = c.args in
     let d = c.put_verdict-space in
-    room_first d.result (32 ∷ decimal a.made) ((32 ∷ []) ++ from_next a.next) d.new.out (room-1 (goal.at.put_lettered-behind-requires c).After-put_verdict-space)
+    room_first d.result (32 ∷ decimal a.made) ((32 ∷ []) ++ from_next a.next) d.new.out
+    (room-1 (goal.at.put_lettered-behind-requires c).After-put_verdict-space)
 
 pub put_lettered-end-requires : goal.put_lettered-end-requires
 put_lettered-end-requires c =

@@ -7,7 +7,8 @@ use Rattle.text.proofs.Texts.{written_more, written_as, room_as, room_first, roo
 use Rattle.printed.specs.Meaning.{printed_of}
 use Rattle.printed.proofs.LineBytes.{from_kind, from_position, line_text_lem}
 use Rattle.printed.proofs.lines.put_line.Goals as goal
-use Rattle.printed.proofs.lines.put_line.Goals.{After-put_decimal-space, After-put_kind-end, After-put_letter-asked, After-put_letter-made, After-put_position-behind, Start}
+use Rattle.printed.proofs.lines.put_line.Goals.{After-put_decimal-space, After-put_kind-end, After-put_letter-asked, After-put_letter-made}
+use Rattle.printed.proofs.lines.put_line.Goals.{After-put_position-behind, Start}
 
 -- the room for the line
 whole : (c : Start)
@@ -47,29 +48,35 @@ kind-written : (c : After-put_kind-end)
     c.put_kind-end.result
 kind-written c =
     let x = printed_of c.args.x in
-    written_as (ap (λ (n : ℤ). kind_text x.kind n) (to_z-of_z (number_fits c.before.before.before.before.before.before.before.before.before.before.before.before.before.before.before.before.before.before.before.before))) c.put_kind-end.ensures
+    written_as (ap (λ (n : ℤ). kind_text x.kind n)
+    (to_z-of_z (number_fits
+    c.before.before.before.before.before.before.before.before.before.before.before.before.before.before.before.before.before.before.before.before))) c.put_kind-end.ensures
 
 pub put_decimal-space-requires : goal.put_decimal-space-requires
 put_decimal-space-requires c =
     let a = c.args in
-    room_first a.at (decimal a.number) ((32 ∷ []) ++ from_position (printed_of a.x)) a.out.now (whole (goal.at.put_decimal-space-requires c).Start)
+    room_first a.at (decimal a.number) ((32 ∷ []) ++ from_position (printed_of a.x)) a.out.now
+    (whole (goal.at.put_decimal-space-requires c).Start)
 
 pub put_letter-asked-requires : goal.put_letter-asked-requires
 put_letter-asked-requires c =
     let x = c.args.x in
     let d = c.put_decimal-space in
-    room_first d.result (32 ∷ []) (from_position (printed_of x)) d.new.out (room-1 (goal.at.put_letter-asked-requires c).After-put_decimal-space)
+    room_first d.result (32 ∷ []) (from_position (printed_of x)) d.new.out
+    (room-1 (goal.at.put_letter-asked-requires c).After-put_decimal-space)
 
 pub put_position-behind-requires : goal.put_position-behind-requires
 put_position-behind-requires c =
     let x = printed_of c.args.x in
     let d = c.put_letter-asked in
-    room_first d.result (position_text x.position) ((32 ∷ []) ++ from_kind x) d.new.out (room-2 (goal.at.put_position-behind-requires c).After-put_letter-asked)
+    room_first d.result (position_text x.position) ((32 ∷ []) ++ from_kind x) d.new.out
+    (room-2 (goal.at.put_position-behind-requires c).After-put_letter-asked)
 
 pub put_letter-made-requires : goal.put_letter-made-requires
 put_letter-made-requires c =
     let d = c.put_position-behind in
-    room_first d.result (32 ∷ []) (from_kind (printed_of c.args.x)) d.new.out (room-3 (goal.at.put_letter-made-requires c).After-put_position-behind)
+    room_first d.result (32 ∷ []) (from_kind (printed_of c.args.x)) d.new.out
+    (room-3 (goal.at.put_letter-made-requires c).After-put_position-behind)
 
 pub put_kind-end-requires : goal.put_kind-end-requires
 put_kind-end-requires c =
@@ -80,7 +87,8 @@ put_kind-end-requires c =
 
 pub put_letter-requires : goal.put_letter-requires
 put_letter-requires c =
-    room_rest (10 ∷ []) (room-4 (goal.at.put_letter-requires c).After-put_letter-made) (kind-written (goal.at.put_letter-requires c).After-put_kind-end)
+    room_rest (10 ∷ []) (room-4 (goal.at.put_letter-requires c).After-put_letter-made)
+    (kind-written (goal.at.put_letter-requires c).After-put_kind-end)
 
 pub returns : goal.returns
 returns c =

@@ -23,7 +23,8 @@ behind_word c =
 pub put_decimal-end-requires : goal.put_decimal-end-requires
 put_decimal-end-requires c =
     let n = c.args.n in
-    room_first c.put_bytes-number.result (decimal n) (10 ∷ []) c.put_bytes-number.new.out (behind_word (goal.at.put_decimal-end-requires c).After-put_bytes-number)
+    room_first c.put_bytes-number.result (decimal n) (10 ∷ []) c.put_bytes-number.new.out
+    (behind_word (goal.at.put_decimal-end-requires c).After-put_bytes-number)
 
 pub put_letter-requires : goal.put_letter-requires
 put_letter-requires c =

@@ -27,7 +27,8 @@ returns-in_default c z h =
     own_empty (view a.m.now) a.position _ z c.requires.1 refl empty h
 
 -- the partner, one of the ends
-partner-here : (c : After-partner) (head-here_here : let a = c.args in head_of (end_at (view a.m.now) (a.position - record_count)) ≡ head_in c.head.result)
+partner-here : (c : After-partner) (head-here_here : let a = c.args in
+    head_of (end_at (view a.m.now) (a.position - record_count)) ≡ head_in c.head.result)
     → let a = c.args in
     let e = a.position - record_count in
     (c.partner.result.0 ≡ partner_in (view a.m.now) e) × (c.partner.result.0 < end_count)
@@ -53,12 +54,14 @@ returns-in_default-head c z h =
     let a = c.args in
     let own = head-here (goal.at.returns-in_default-head c).After-head ∙ ap head_in c.in-Item.is in
     let empty = head-there (goal.at.returns-in_default-head c).After-head-2 ∙ ap head_in c.in_default-head.is in
-    partner_empty (view a.m.now) a.position _ _ _ z c.requires.1 refl own (partner-here (goal.at.returns-in_default-head c).After-partner (head-here (goal.at.returns-in_default-head c).After-head)).0 empty h
+    partner_empty (view a.m.now) a.position _ _ _ z c.requires.1 refl own (partner-here (goal.at.returns-in_default-head c).After-partner
+    (head-here (goal.at.returns-in_default-head c).After-head)).0 empty h
 
 pub returns : goal.returns
 returns c z h =
     let a = c.args in
     let own = head-here (goal.at.returns c).After-head ∙ ap head_in c.in-Item.is in
     let other = head-there (goal.at.returns c).After-head-2 ∙ ap head_in c.in-Item-head.is in
-    let met = end_prints (view a.m.now) a.position _ _ _ _ z c.requires.1 refl own (partner-here (goal.at.returns c).After-partner (head-here (goal.at.returns c).After-head)).0 other h in
+    let met = end_prints (view a.m.now) a.position _ _ _ _ z c.requires.1 refl own (partner-here (goal.at.returns c).After-partner
+    (head-here (goal.at.returns c).After-head)).0 other h in
     c.of_items.ensures (view a.m.now) _ _ z met

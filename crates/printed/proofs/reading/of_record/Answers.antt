@@ -27,7 +27,8 @@ pub returns-then-code-place : goal.returns-then-code-place
 returns-then-code-place c z h =
     let a = c.args in
     let past = subst (λ (l : List ℕ). length l ≤ c.place_of-place.result) c.code-code.ensures c.if-code-place.true in
-    past_code (view a.m.now).code c.place_of-place.result a.position z past (told (goal.at.returns-then-code-place c).After-place_of-place z h)
+    past_code (view a.m.now).code c.place_of-place.result a.position z past
+    (told (goal.at.returns-then-code-place c).After-place_of-place z h)
 
 pub returns : goal.returns
 returns c z h =

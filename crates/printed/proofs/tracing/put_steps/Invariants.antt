@@ -6,7 +6,8 @@ use Rattle.printed.proofs.RunLines.{LinesSoFar}
 use Rattle.printed.proofs.tracing.put_steps.Given as goal
 
 abbrev pub invariant-loop-made : goal.invariant-loop-made
-invariant-loop-made l = (l.made ≤ trace_budget) × (length l.m ≡ length l.initial.m) × (length l.out ≡ length l.initial.out) × LinesSoFar (view l.initial.m) l.initial.out l.end l.made l.next l.m l.out
+invariant-loop-made l = (l.made ≤ trace_budget) × (length l.m ≡ length l.initial.m) × (length l.out ≡ length l.initial.out)
+    × LinesSoFar (view l.initial.m) l.initial.out l.end l.made l.next l.m l.out
 
 abbrev pub decreases-loop-made : goal.decreases-loop-made
 decreases-loop-made l = trace_budget - l.made

@@ -36,13 +36,15 @@ apart c st g sized laid xe ye in_use =
 pub returns-then-queued-gt0 : goal.returns-then-queued-gt0
 returns-then-queued-gt0 c st g sized laid xe ye in_use =
     let a = c.args in
-    first_queued st g a.c.0 a.d.0 (ne_eqb a.c.0 a.d.0 c.if-c-d.false) (apart (goal.at.returns-then-queued-gt0 c).Else-partner-y st g sized laid xe ye in_use)
+    first_queued st g a.c.0 a.d.0 (ne_eqb a.c.0 a.d.0 c.if-c-d.false) (apart (goal.at.returns-then-queued-gt0 c).Else-partner-y
+    st g sized laid xe ye in_use)
     (some_queued st g a.c.0 a.x.0 _ xe (c.queued.ensures.value_2 st sized laid) c.if-queued-gt0.true)
 
 pub returns-then-queued-gt0-2 : goal.returns-then-queued-gt0-2
 returns-then-queued-gt0-2 c st g sized laid xe ye in_use =
     let a = c.args in
-    second_queued st g a.c.0 a.d.0 (ne_eqb a.c.0 a.d.0 c.if-c-d.false) (apart (goal.at.returns-then-queued-gt0-2 c).Else-partner-y st g sized laid xe ye in_use)
+    second_queued st g a.c.0 a.d.0 (ne_eqb a.c.0 a.d.0 c.if-c-d.false) (apart (goal.at.returns-then-queued-gt0-2 c).Else-partner-y
+    st g sized laid xe ye in_use)
     (none_queued st g a.c.0 a.x.0 _ xe (c.queued.ensures.value_2 st sized laid) (omega (arith, c.if-queued-gt0.false)))
     (some_queued st g a.d.0 a.y.0 _ ye (c.queued-2.ensures.value_2 st sized laid) c.if-queued-gt0-2.true)
 

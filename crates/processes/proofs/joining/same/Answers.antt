@@ -79,7 +79,14 @@ join-requires c =
     (sym (shared (goal.at.join-requires c).After-refusal g is) ∙ c.in_default-refusal.is) in
     record {
       m_len = p.m_len;
-      sound_memory = (p.sound_memory.0, rw (first (goal.at.join-requires c).After-own_end-x g is, second (goal.at.join-requires c).After-own_end-y g is) j);
+      sound_memory = (
+        p.sound_memory.0,
+        rw (
+          first (goal.at.join-requires c).After-own_end-x g is,
+          second
+              (goal.at.join-requires c).After-own_end-y g is,
+        ) j,
+      );
     }
 
 pub returns : goal.returns
@@ -90,4 +97,5 @@ returns c next g is =
     let none = sym (shared (goal.at.returns c).After-refusal g is) ∙ c.in_default-refusal.is in
     let anew = c.clear.ensures _ (sized_joined (view m) _ _ (memory_sized m s)) c.join.ensures in
     done_step m _ (same_done (view m) s.state_sound a.r.0 g is a.c.0 a.d.0 (passes (passed (goal.at.returns c).In_default) g is) next none)
-    (anew ∙ ap layout (same_after (view m) a.r.0 next g a.c.0 a.d.0 _ _ (first (goal.at.returns c).After-own_end-x g is) (second (goal.at.returns c).After-own_end-y g is)))
+    (anew ∙ ap layout (same_after (view m) a.r.0 next g a.c.0 a.d.0 _ _ (first (goal.at.returns c).After-own_end-x g is)
+    (second (goal.at.returns c).After-own_end-y g is)))

@@ -12,7 +12,8 @@ use Rattle.stepping.proofs.FreeRecords.{no_record, some_record}
 use Rattle.stepping.proofs.Begun.{Begun, told, held, own_step, passes}
 use Rattle.processes.proofs.PlugCases.{too_few_ends, no_free_record_lem, plugged}
 use Rattle.processes.proofs.plugging.plug.Goals as goal
-use Rattle.processes.proofs.plugging.plug.Goals.{After-free_word-word, After-lowest_free_record-new, After-plug, Else-count-lt2, Else-new, In_default, Start}
+use Rattle.processes.proofs.plugging.plug.Goals.{After-free_word-word, After-lowest_free_record-new, After-plug, Else-count-lt2, Else-new}
+use Rattle.processes.proofs.plugging.plug.Goals.{In_default, Start}
 
 pub load-held-requires : goal.load-held-requires
 load-held-requires c = let p = c.requires in (memory_length _ p.0, in_range _ p.0 _ p.1)
@@ -46,7 +47,8 @@ pub returns-then-count-lt2 : goal.returns-then-count-lt2
 returns-then-count-lt2 c next g is =
     let a = c.args in
     let st = view a.m.now in
-    let few = few_ends st (memory_sized _ c.requires.0) _ (word_read (goal.at.returns-then-count-lt2 c).After-free_word-word) c.count.ensures 2 c.if-count-lt2.true in
+    let few = few_ends st (memory_sized _ c.requires.0) _ (word_read (goal.at.returns-then-count-lt2 c).After-free_word-word)
+    c.count.ensures 2 c.if-count-lt2.true in
     refused_step 15 (too_few_ends st a.r.0 next g _ _ _ _ _ (passes (passed (goal.at.returns-then-count-lt2 c).In_default) g is) few)
 
 pub lowest_free_record-new-requires : goal.lowest_free_record-new-requires
@@ -68,8 +70,10 @@ pub returns-then-new : goal.returns-then-new
 returns-then-new c next g is =
     let a = c.args in
     let st = view a.m.now in
-    let none = no_record st c.requires.0.state_sound (omega (arith, c.if-new.true, new-read (goal.at.returns-then-new c).After-lowest_free_record-new)) in
-    refused_step 15 (no_free_record_lem st a.r.0 next g _ _ _ _ _ (passes (passed (goal.at.returns-then-new c).In_default) g is) (two (goal.at.returns-then-new c).Else-count-lt2) none)
+    let none = no_record st c.requires.0.state_sound
+    (omega (arith, c.if-new.true, new-read (goal.at.returns-then-new c).After-lowest_free_record-new)) in
+    refused_step 15 (no_free_record_lem st a.r.0 next g _ _ _ _ _ (passes (passed (goal.at.returns-then-new c).In_default) g is)
+    (two (goal.at.returns-then-new c).Else-count-lt2) none)
 
 -- a record is free
 some : (c : Else-new) → no_free_record (view c.args.m.now) ≡ false
@@ -82,7 +86,13 @@ divide-requires c =
       sound_memory = (
         p.0,
         p.1,
-        record { word_is = word_read (goal.at.divide-requires c).After-free_word-word; two_ends = two (goal.at.divide-requires c).Else-count-lt2; new_is = new-read (goal.at.divide-requires c).After-lowest_free_record-new; a_record = some (goal.at.divide-requires c).Else-new },
+        record {
+          word_is = word_read (goal.at.divide-requires c).After-free_word-word;
+          two_ends = two
+              (goal.at.divide-requires c).Else-count-lt2;
+          new_is = new-read (goal.at.divide-requires c).After-lowest_free_record-new;
+          a_record = some (goal.at.divide-requires c).Else-new;
+        },
       );
     }
 
@@ -91,5 +101,6 @@ returns c next g is =
     let a = c.args in
     let m = a.m.now in
     let b = passed (goal.at.returns c).In_default in
-    done_step m _ (plugged (view m) a.r.0 next g _ _ _ _ _ (passes b g is) (two (goal.at.returns c).Else-count-lt2) (some (goal.at.returns c).Else-new))
+    done_step m _ (plugged (view m) a.r.0 next g _ _ _ _ _ (passes b g is) (two (goal.at.returns c).Else-count-lt2)
+    (some (goal.at.returns c).Else-new))
     (c.divide.ensures next g is (held b g is))

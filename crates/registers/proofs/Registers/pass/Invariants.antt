@@ -7,7 +7,8 @@ use Rattle.registers.proofs.Registers.pass.Given as goal
 
 abbrev pub invariant-loop-k : goal.invariant-loop-k
 invariant-loop-k l =
-    (l.k ≤ l.n) × (l.callee.stack_count ≡ l.initial.callee.stack_count - l.k) × (l.callee.environment_count ≡ l.initial.callee.environment_count + l.k)
+    (l.k ≤ l.n) × (l.callee.stack_count ≡ l.initial.callee.stack_count - l.k)
+    × (l.callee.environment_count ≡ l.initial.callee.environment_count + l.k)
     × ((g : Process) → length g.stack ≤ stack_depth → l.initial.callee ≡ registers_of (registers g.place g.stack [] g.slots)
     → l.callee ≡ registers_of (passed g l.k))
 

@@ -14,8 +14,11 @@ returns-then-listed-k-ge-SLOT_COUNT c =
 pub loop-k-preserved : goal.loop-k-preserved
 loop-k-preserved c =
     let cs = c.args.listed.now in
-    let k = c.loop-k.k in
-    (omega arith, passed over_search 0 tt tt cs k c.loop-k.invariant.1 (omega arith) (lt-leb slot_count (get_or cs k 0) c.if-listed-k-ge-SLOT_COUNT.false))
+    let k = c.loop-k.k in (
+      omega arith,
+      passed over_search 0 tt tt cs k c.loop-k.invariant.1 (omega arith)
+          (lt-leb slot_count (get_or cs k 0) c.if-listed-k-ge-SLOT_COUNT.false),
+    )
 
 pub returns : goal.returns
 returns c = none_found over_search 0 tt tt c.args.listed.now c.loop-k.k c.loop-k.invariant.1 (omega arith)

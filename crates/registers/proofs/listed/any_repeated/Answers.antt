@@ -20,13 +20,17 @@ pub returns-then-has : goal.returns-then-has
 returns-then-has c =
     let cs = c.args.listed.now in
     let k = c.loop-k.k in
-    found repeated_search 0 tt tt cs k c.loop-k.invariant.1 (omega arith) (sym (behind (goal.at.returns-then-has c).After-has) ∙ c.if-has.true)
+    found repeated_search 0 tt tt cs k c.loop-k.invariant.1 (omega arith) (sym (behind (goal.at.returns-then-has c).After-has)
+    ∙ c.if-has.true)
 
 pub loop-k-preserved : goal.loop-k-preserved
 loop-k-preserved c =
     let cs = c.args.listed.now in
-    let k = c.loop-k.k in
-    (omega arith, passed repeated_search 0 tt tt cs k c.loop-k.invariant.1 (omega arith) (sym (behind (goal.at.loop-k-preserved c).After-has) ∙ c.if-has.false))
+    let k = c.loop-k.k in (
+      omega arith,
+      passed repeated_search 0 tt tt cs k c.loop-k.invariant.1 (omega arith)
+          (sym (behind (goal.at.loop-k-preserved c).After-has) ∙ c.if-has.false),
+    )
 
 pub returns : goal.returns
 returns c =

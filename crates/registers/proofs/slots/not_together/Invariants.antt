@@ -6,7 +6,8 @@ use Rattle.registers.specs.Registers.{slot_bytes}
 use Rattle.registers.proofs.slots.not_together.Given as goal
 
 abbrev pub invariant-loop-k : goal.invariant-loop-k
-invariant-loop-k at = (at.k ≤ slot_count) × ((l : Slots) → length l ≡ slot_count → at.slots ≡ slot_bytes l → not_together at.m at.n l ≡ not_together at.a at.b (drop at.k l))
+invariant-loop-k at = (at.k ≤ slot_count) × ((l : Slots) → length l ≡ slot_count → at.slots ≡ slot_bytes l
+    → not_together at.m at.n l ≡ not_together at.a at.b (drop at.k l))
 
 abbrev pub decreases-loop-k : goal.decreases-loop-k
 decreases-loop-k l = slot_count - l.k

@@ -7,7 +7,8 @@ use Rattle.words.proofs.Tables.{Filled}
 use Rattle.registers.proofs.values.read.Given as goal
 
 abbrev pub invariant-loop-k : goal.invariant-loop-k
-invariant-loop-k l = (l.k ≤ stack_depth) × Filled (pos 0) stack_depth (λ (j : ℕ). to_z w32 (number_at value_size l.m (l.at + value_size * j))) l.values l.k
+invariant-loop-k l = (l.k ≤ stack_depth)
+    × Filled (pos 0) stack_depth (λ (j : ℕ). to_z w32 (number_at value_size l.m (l.at + value_size * j))) l.values l.k
 
 abbrev pub decreases-loop-k : goal.decreases-loop-k
 decreases-loop-k l = stack_depth - l.k

@@ -7,7 +7,8 @@ use Rattle.words.specs.Parts.{put_at}
 use Rattle.registers.proofs.values.write.Given as goal
 
 abbrev pub invariant-loop-k : goal.invariant-loop-k
-invariant-loop-k l = (l.k ≤ stack_depth) × (length l.m ≡ length l.initial.m) × (l.m ≡ put_at l.initial.m l.at (flat value_bytes (take l.k l.values)))
+invariant-loop-k l = (l.k ≤ stack_depth) × (length l.m ≡ length l.initial.m)
+    × (l.m ≡ put_at l.initial.m l.at (flat value_bytes (take l.k l.values)))
 
 abbrev pub decreases-loop-k : goal.decreases-loop-k
 decreases-loop-k l = stack_depth - l.k

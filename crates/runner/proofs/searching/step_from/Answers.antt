@@ -30,4 +30,5 @@ returns-in-At c =
 pub returns-in-Nowhere : goal.returns-in-Nowhere
 returns-in-Nowhere c =
     let a = c.args in
-    made_below a.m.now a.position c.requires.m_len.1 (nowhere-above (goal.at.returns-in-Nowhere c).In-Nowhere) c.step_between-in-Nowhere.ensures
+    made_below a.m.now a.position c.requires.m_len.1 (nowhere-above (goal.at.returns-in-Nowhere c).In-Nowhere)
+    c.step_between-in-Nowhere.ensures

@@ -14,7 +14,8 @@ returns-in_default c =
     let s = c.requires.1 in
     let r = c.loop-r.r in
     sym (all_fails is_free_record free_record refl (view m).records r
-    (in_use (record_at (view m) r) (c.status_of.ensures (view m) (memory_sized m s) s.laid_out) (not_free (opened c.in_default.in_default-own.keys2))))
+    (in_use (record_at (view m) r) (c.status_of.ensures (view m) (memory_sized m s) s.laid_out)
+    (not_free (opened c.in_default.in_default-own.keys2))))
 
 pub returns : goal.returns
 returns c =

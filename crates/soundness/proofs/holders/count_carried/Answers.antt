@@ -27,7 +27,8 @@ add_one-requires c =
 pub add_one-requires-in-Split : goal.add_one-requires-in-Split
 add_one-requires-in-Split c =
     let within = split_within c.in-Split.is c.requires.1 in
-    let small = added_below places_in_all 1 (places_in_all + 1) (first (goal.at.add_one-requires-in-Split c).After-add_one) (omega arith) c.requires.2
+    let small = added_below places_in_all 1 (places_in_all + 1) (first (goal.at.add_one-requires-in-Split c).After-add_one) (omega arith)
+    c.requires.2
     (one_few c.wide.result) (omega arith) in
     (omega (arith, c.wide-in-Split.ensures, within.1), omega (arith, small c.wide-in-Split.result))
 

@@ -33,8 +33,12 @@ stands_once-requires c =
 
 pub returns-then-not-stands_once : goal.returns-then-not-stands_once
 returns-then-not-stands_once c =
-    turn_fails _ c.loop-e.e (told (goal.at.returns-then-not-stands_once c).After-stands_once) end_count (omega arith) (ap not c.if-not-stands_once.true)
+    turn_fails _ c.loop-e.e (told (goal.at.returns-then-not-stands_once c).After-stands_once) end_count (omega arith)
+    (ap not c.if-not-stands_once.true)
 
 pub loop-e-preserved : goal.loop-e-preserved
-loop-e-preserved c =
-    (omega arith, turn_passes _ c.loop-e.e (told (goal.at.loop-e-preserved c).After-stands_once) c.loop-e.invariant.1 (ap not c.if-not-stands_once.false))
+loop-e-preserved c = (
+  omega arith,
+  turn_passes _ c.loop-e.e (told (goal.at.loop-e-preserved c).After-stands_once) c.loop-e.invariant.1
+      (ap not c.if-not-stands_once.false),
+)

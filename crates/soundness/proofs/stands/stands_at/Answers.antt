@@ -23,7 +23,8 @@ told : (c : After-status_of) → c.status_of.result ≡ status_of (shown c.befor
 told c =
     let m = c.args.m.now in
     let bytes : Bytes m = λ j. (c.shared_slice_known-1.given j).fits in
-    c.status_of.ensures (view m) (shown_sized m bytes c.requires.m_len.0 c.requires.m_len.1) (shown_layout m bytes c.requires.m_len.0 c.requires.m_len.1)
+    c.status_of.ensures (view m) (shown_sized m bytes c.requires.m_len.0 c.requires.m_len.1)
+    (shown_layout m bytes c.requires.m_len.0 c.requires.m_len.1)
 
 within : (c : After-status_of) → RecordWithin (shown c.before.before.before)
 within c =
@@ -31,7 +32,8 @@ within c =
     let all_within = shown_within m (λ j. (c.shared_slice_known-1.given j).fits) c.requires.m_len.0 c.requires.m_len.1 in
     all_within.records_within (record_number c.args.r)
 
-loaded : (c : After-load-held) (within_here : RecordWithin (shown c.before.before.before.before.before)) → c.load-held.result ≡ registers_of (registers_in (shown c.before.before.before.before.before))
+loaded : (c : After-load-held) (within_here : RecordWithin (shown c.before.before.before.before.before))
+    → c.load-held.result ≡ registers_of (registers_in (shown c.before.before.before.before.before))
 loaded c within_here =
     let m = c.args.m.now in
     let bytes : Bytes m = λ j. (c.shared_slice_known-1.given j).fits in
@@ -58,9 +60,12 @@ pub returns-in-Bad : goal.returns-in-Bad
 unfolding stands_decoded registers_of
 returns-in-Bad c =
     let code = (view c.args.m.now).code in
-    stands_decoded_lem code (end_number c.args.e) (shown (goal.at.returns-in-Bad c).Start) (told (goal.at.returns-in-Bad c).After-status_of) c.in-Waiting.is c.code.ensures
-    (ap (λ (h : Registers). h.place) (loaded (goal.at.returns-in-Bad c).After-load-held (within (goal.at.returns-in-Bad c).After-status_of))) c.decode.ensures c.in-Bad.is
+    stands_decoded_lem code (end_number c.args.e) (shown (goal.at.returns-in-Bad c).Start)
+    (told (goal.at.returns-in-Bad c).After-status_of) c.in-Waiting.is c.code.ensures
+    (ap (λ (h : Registers). h.place) (loaded (goal.at.returns-in-Bad c).After-load-held
+    (within (goal.at.returns-in-Bad c).After-status_of))) c.decode.ensures c.in-Bad.is
 
 pub returns : goal.returns
 returns c =
-    stands_not (view c.args.m.now).code (end_number c.args.e) (shown (goal.at.returns c).Start) (told (goal.at.returns c).After-status_of) (opened c.in_default.in_default-own.keys2)
+    stands_not (view c.args.m.now).code (end_number c.args.e) (shown (goal.at.returns c).Start) (told (goal.at.returns c).After-status_of)
+    (opened c.in_default.in_default-own.keys2)

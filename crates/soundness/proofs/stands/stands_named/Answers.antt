@@ -25,4 +25,5 @@ returns-in-Hcase c g code place next w h =
     (c.hcase.ensures g (places_at code place 3 k) w h)
 
 pub returns-in_default : goal.returns-in_default
-returns-in_default c g code place next w h = stands_other (end_number c.args.e) g code place next c.args.i (opened c.in_default.in_default-own.keys4)
+returns-in_default c g code place next w h = stands_other (end_number c.args.e) g code place next c.args.i
+    (opened c.in_default.in_default-own.keys4)

@@ -25,8 +25,12 @@ loop-i-init c = (omega arith, every_none (waits_test (view c.args.m.now)))
 
 pub returns-then-not-is_named_rightly : goal.returns-then-not-is_named_rightly
 returns-then-not-is_named_rightly c =
-    turn_fails _ c.loop-i.i (told (goal.at.returns-then-not-is_named_rightly c).After-is_named_rightly) record_count (omega arith) (ap not c.if-not-is_named_rightly.true)
+    turn_fails _ c.loop-i.i (told (goal.at.returns-then-not-is_named_rightly c).After-is_named_rightly) record_count (omega arith)
+    (ap not c.if-not-is_named_rightly.true)
 
 pub loop-i-preserved : goal.loop-i-preserved
-loop-i-preserved c =
-    (omega arith, turn_passes _ c.loop-i.i (told (goal.at.loop-i-preserved c).After-is_named_rightly) c.loop-i.invariant.1 (ap not c.if-not-is_named_rightly.false))
+loop-i-preserved c = (
+  omega arith,
+  turn_passes _ c.loop-i.i (told (goal.at.loop-i-preserved c).After-is_named_rightly) c.loop-i.invariant.1
+      (ap not c.if-not-is_named_rightly.false),
+)

@@ -5,7 +5,8 @@ use Rattle.text.proofs.Decimals.{digits_left}
 use Rattle.text.proofs.printing.spell.Given as goal
 
 abbrev pub invariant-loop-rest : goal.invariant-loop-rest
-invariant-loop-rest l = (l.from ≤ 19) × (length l.digits ≡ 20) × (l.rest < 10 ^ l.from) × (decimal l.n ≡ digits_left l.from l.rest (drop l.from l.digits))
+invariant-loop-rest l = (l.from ≤ 19) × (length l.digits ≡ 20) × (l.rest < 10 ^ l.from)
+    × (decimal l.n ≡ digits_left l.from l.rest (drop l.from l.digits))
 
 abbrev pub decreases-loop-rest : goal.decreases-loop-rest
 decreases-loop-rest l = l.rest
