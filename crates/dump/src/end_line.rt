@@ -53,7 +53,7 @@ fn put_item(out: &mut [u8], at: usize, item: Item) -> usize
 fn put_next(out: &mut [u8], at: usize, m: &[u8], e: u8, k: usize) -> usize
     requires m_len { (length m.now ≡ state_size) × (e < end_count) × SoundMemory m.now }
     requires k_in_bounds { k < length (item_texts (end_at (view m.now) e)) }
-    requires k_in_bounds_2 { at + length (comma_behind k ++ get_or (item_texts (end_at (view m.now) e)) k []) ≤ length out.old }
+    requires room { at + length (comma_behind k ++ get_or (item_texts (end_at (view m.now) e)) k []) ≤ length out.old }
     ensures { Written out.old at (comma_behind k ++ get_or (item_texts (end_at (view m.now) e)) k [])
         out.new result }
 {

@@ -44,8 +44,8 @@ pub fn partner(m: &[u8], end: End) -> End
 // How many items are queued.
 pub fn queued(m: &[u8], end: End) -> u8
     requires { (length m.now ≡ state_size) × (end_number end < end_count) }
-    ensures value { result ≡ count_in m.now (end_number end) }
-    ensures value_2 { (st : State) → Sized st → m.now ≡ layout st → result ≡ queue_length (end_at st (end_number end)) }
+    ensures counted { result ≡ count_in m.now (end_number end) }
+    ensures queued { (st : State) → Sized st → m.now ≡ layout st → result ≡ queue_length (end_at st (end_number end)) }
 {
     get8(m, COUNTS_AT + end.0 as usize)
 }

@@ -21,12 +21,13 @@ use rules::{End, HEADS_MISMATCH, NO_RECORD_FOR_FORK, RECORD_COUNT, Record, Reply
 
 // Both heads are removed, and record r runs with these registers.
 fn take_both(m: &mut [u8], from: End, to: End, r: Record, x: Registers)
-    requires { (length m.old ≡ state_size) × (end_number from < end_count) × (end_number to < end_count) × (record_number r < record_count) }
+    requires { (length m.old ≡ state_size) × (end_number from < end_count) × (end_number to < end_count)
+        × (record_number r < record_count) }
     ensures { (st : State) (g : Process) → Sized st → m.old ≡ layout st → EndFits (end_at st (end_number from))
         → EndFits (end_at st (end_number to)) → end_number from ≢ end_number to → x ≡ registers_of g
-        → m.new ≡ layout (set_record (set_end
-        (set_end st (end_number from) (behind_head (end_at st (end_number from)))) (end_number to) (behind_head (end_at st (end_number to))))
-        (record_number r) (running g)) }
+        → m.new ≡ layout (set_record
+        (set_end (set_end st (end_number from) (behind_head (end_at st (end_number from)))) (end_number to)
+        (behind_head (end_at st (end_number to)))) (record_number r) (running g)) }
 {
     ends::take_head(m, from);
     ends::take_head(m, to);

@@ -114,7 +114,8 @@ fn given_up(last: Last) -> u16
 
 // `count` is in how many slots and split items the end is.
 fn stands_once(m: &[u8], word: u64, e: usize, count: u16) -> bool
-    requires m_len { (length m.now ≡ state_size) × (e < end_count) × (end_test m.now e ≡ true) × (word ≡ number_at free_size m.now free_at) }
+    requires m_len { (length m.now ≡ state_size) × (e < end_count) × (end_test m.now e ≡ true)
+        × (word ≡ number_at free_size m.now free_at) }
     requires count_le_places_in_all { count ≤ places_in_all }
     ensures { result ≡ eqb (count + given_up (end_at (view m.now) e)) (in_use (end_at (view m.now) e)) }
 {

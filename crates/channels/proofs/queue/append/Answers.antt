@@ -26,11 +26,11 @@ pub returns-then-queued-ge-QUEUE_DEPTH : goal.returns-then-queued-ge-QUEUE_DEPTH
 returns-then-queued-ge-QUEUE_DEPTH c r g h =
     let s = c.requires.sound in
     let is = here (goal.at.returns-then-queued-ge-QUEUE_DEPTH c).After-own_end-end r g h in
-    not_appended s h _ is c.queued.ensures.value_2 c.if-queued-ge-QUEUE_DEPTH.true _
+    not_appended s h _ is c.queued.ensures.queued c.if-queued-ge-QUEUE_DEPTH.true _
 
 pub append-requires : goal.append-requires
 append-requires c =
-    let room = c.queued.ensures.value in (
+    let room = c.queued.ensures.counted in (
       memory_length _ c.requires.sound,
       within (goal.at.append-requires c).After-own_end-end,
       omega
@@ -41,4 +41,4 @@ pub returns : goal.returns
 returns c r g h =
     let s = c.requires.sound in
     let is = here (goal.at.returns c).After-own_end-end r g h in
-    item_appended s h _ is c.queued.ensures.value_2 c.if-queued-ge-QUEUE_DEPTH.false _ c.append.ensures
+    item_appended s h _ is c.queued.ensures.queued c.if-queued-ge-QUEUE_DEPTH.false _ c.append.ensures

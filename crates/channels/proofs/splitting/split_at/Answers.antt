@@ -30,7 +30,7 @@ pub returns-then-queued-ge-QUEUE_DEPTH : goal.returns-then-queued-ge-QUEUE_DEPTH
 returns-then-queued-ge-QUEUE_DEPTH c g h =
     let a = c.args in
     let s = c.requires.holds_end.sound in
-    let is_full = full s h _ (here (goal.at.returns-then-queued-ge-QUEUE_DEPTH c).After-own_end-end g h) c.queued.ensures.value_2
+    let is_full = full s h _ (here (goal.at.returns-then-queued-ge-QUEUE_DEPTH c).After-own_end-end g h) c.queued.ensures.queued
     c.if-queued-ge-QUEUE_DEPTH.true in
     record { shared = refused_step 13 (split_full (view a.m.now) _ _ g _ _ _ is_full) }
 
@@ -47,7 +47,7 @@ pub returns-then-count-lt4 : goal.returns-then-count-lt4
 returns-then-count-lt4 c g h =
     let a = c.args in
     let s = c.requires.holds_end.sound in
-    let room = not_full s h _ (here (goal.at.returns-then-count-lt4 c).After-own_end-end g h) c.queued.ensures.value_2
+    let room = not_full s h _ (here (goal.at.returns-then-count-lt4 c).After-own_end-end g h) c.queued.ensures.queued
     c.if-queued-ge-QUEUE_DEPTH.false in
     let too_few = few_ends _ (memory_sized _ s) _ (word_is (goal.at.returns-then-count-lt4 c).After-free_word-free)
     c.count.ensures 4 c.if-count-lt4.true in
@@ -65,7 +65,7 @@ split_ends-requires c =
     let left = c.if-queued-ge-QUEUE_DEPTH.false in
     let four = new_within _ (memory_sized _ s) _ (new (goal.at.split_ends-requires c).After-four_lowest-new) in
     record {
-      m_len = (memory_length _ s, within (goal.at.split_ends-requires c).After-own_end-end, omega (arith, left, c.queued.ensures.value));
+      m_len = (memory_length _ s, within (goal.at.split_ends-requires c).After-own_end-end, omega (arith, left, c.queued.ensures.counted));
       four_within = four;
     }
 
@@ -84,7 +84,7 @@ returns c g h =
     let st = view a.m.now in
     let z = memory_sized _ s in
     let is = here (goal.at.returns c).After-own_end-end g h in
-    let room = not_full s h _ is c.queued.ensures.value_2 c.if-queued-ge-QUEUE_DEPTH.false in
+    let room = not_full s h _ is c.queued.ensures.queued c.if-queued-ge-QUEUE_DEPTH.false in
     let n = new (goal.at.returns c).After-four_lowest-new in
     let mine = own s h _ is in
     let ends-stored = c.split_ends.ensures st z s.laid_out mine.in_use mine.no_last n.free in

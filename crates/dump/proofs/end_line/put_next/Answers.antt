@@ -48,7 +48,7 @@ put_item-requires c =
     let item = get_or (item_texts (end_at (view a.m.now) a.e)) a.k [] in
     let put = c.put_comma-behind in
     room_as put.result _ item put.new.out (item_is (goal.at.put_item-requires c).In-Item)
-    (room_rest item c.requires.k_in_bounds_2 put.ensures)
+    (room_rest item c.requires.room put.ensures)
 
 pub returns : goal.returns
 returns c =

@@ -17,7 +17,7 @@ counted c =
     let a = c.args in
     let m = a.m.now in
     let s = c.requires.m_len.2 in
-    let is = c.queued-count.ensures.value_2 (view m) (memory_sized m s) s.laid_out in
+    let is = c.queued-count.ensures.queued (view m) (memory_sized m s) s.laid_out in
     omega (arith, is, items_count (end_at (view m) a.e))
 
 pub loop-k-init : goal.loop-k-init
@@ -33,7 +33,7 @@ put_next-next-requires c =
     record {
       m_len = c.requires.m_len;
       k_in_bounds = inside;
-      k_in_bounds_2 = index_room all l.k l.invariant.2 [] inside c.requires.e_in_bounds;
+      room = index_room all l.k l.invariant.2 [] inside c.requires.e_in_bounds;
     }
 
 pub loop-k-preserved : goal.loop-k-preserved

@@ -13,7 +13,7 @@ returns c st z laid used no_last =
     let k = c.queued-count.result in
     let e = a.end.0 in
     let inside = c.requires.1 in
-    let count : k ≡ queue_length (end_at st e) = c.queued-count.ensures.value ∙ count_is st z a.m.now laid e inside in
-    let room : k < queue_depth = rw c.queued-count.ensures.value c.requires.2 in
+    let count : k ≡ queue_length (end_at st e) = c.queued-count.ensures.counted ∙ count_is st z a.m.now laid e inside in
+    let room : k < queue_depth = rw c.queued-count.ensures.counted c.requires.2 in
     append_written st z e inside laid used no_last (item_of a.item) k c.cell_of.result count room c.cell_of.ensures
     c.put_cell.ensures c.put_count.ensures

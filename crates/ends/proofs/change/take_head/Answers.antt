@@ -9,7 +9,7 @@ returns c st z laid fits =
     let a = c.args in
     let e = a.end.0 in
     let inside = c.requires.1 in
-    let count = c.queued-count.ensures.value ∙ count_is st z a.m.now laid e inside in
+    let count = c.queued-count.ensures.counted ∙ count_is st z a.m.now laid e inside in
     let cells = c.get_cells-c.ensures ∙ cells_are st z a.m.now laid e inside fits in
     take_written st z e inside laid fits c.queued-count.result c.get_cells-c.result count cells
     c.put_cells.ensures c.put_count.ensures

@@ -7,6 +7,6 @@ pub returns : goal.returns
 returns c =
     let a = c.args in
     record {
-      value = c.get8.ensures;
-      value_2 = λ st z e. c.get8.ensures ∙ count_is st z a.m.now e a.end.0 c.requires.1;
+      counted = c.get8.ensures;
+      queued = λ st z e. c.get8.ensures ∙ count_is st z a.m.now e a.end.0 c.requires.1;
     }

@@ -38,19 +38,15 @@ room-4 : (c : After-put_letter-made)
 room-4 c =
     room_rest (from_kind (printed_of c.args.x)) (room-3 c.before.before.before.before) c.put_letter-made.ensures
 
--- the number has 32 bits, so what is printed is the number that was given
-number_fits : (c : Start) → SFits w32 c.args.x.number
-number_fits c = search rules
-
 kind-written : (c : After-put_kind-end)
     → let x = printed_of c.args.x in
     Written c.put_letter-made.new.out c.put_letter-made.result (kind_text x.kind x.number) c.put_kind-end.new.out
     c.put_kind-end.result
 kind-written c =
     let x = printed_of c.args.x in
-    written_as (ap (λ (n : ℤ). kind_text x.kind n)
-    (to_z-of_z (number_fits
-    c.before.before.before.before.before.before.before.before.before.before.before.before.before.before.before.before.before.before.before.before))) c.put_kind-end.ensures
+    -- the number has 32 bits, so what is printed is the number that was given
+    let number_fits : SFits w32 c.args.x.number = search rules in
+    written_as (ap (λ (n : ℤ). kind_text x.kind n) (to_z-of_z number_fits)) c.put_kind-end.ensures
 
 pub put_decimal-space-requires : goal.put_decimal-space-requires
 put_decimal-space-requires c =
@@ -82,7 +78,8 @@ pub put_kind-end-requires : goal.put_kind-end-requires
 put_kind-end-requires c =
     let x = printed_of c.args.x in
     let d = c.put_letter-made in
-    rw (to_z-of_z {w = w32} {z = x.number} (number_fits (goal.at.put_kind-end-requires c).Start))
+    let number_fits : SFits w32 c.args.x.number = search rules in
+    rw (to_z-of_z {w = w32} {z = x.number} number_fits)
     (room_first d.result (kind_text x.kind x.number) (10 ∷ []) d.new.out (room-4 (goal.at.put_kind-end-requires c).After-put_letter-made))
 
 pub put_letter-requires : goal.put_letter-requires

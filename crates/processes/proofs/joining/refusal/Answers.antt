@@ -38,19 +38,19 @@ returns-then-queued-gt0 c st g sized laid xe ye in_use =
     let a = c.args in
     first_queued st g a.c.0 a.d.0 (ne_eqb a.c.0 a.d.0 c.if-c-d.false) (apart (goal.at.returns-then-queued-gt0 c).Else-partner-y
     st g sized laid xe ye in_use)
-    (some_queued st g a.c.0 a.x.0 _ xe (c.queued.ensures.value_2 st sized laid) c.if-queued-gt0.true)
+    (some_queued st g a.c.0 a.x.0 _ xe (c.queued.ensures.queued st sized laid) c.if-queued-gt0.true)
 
 pub returns-then-queued-gt0-2 : goal.returns-then-queued-gt0-2
 returns-then-queued-gt0-2 c st g sized laid xe ye in_use =
     let a = c.args in
     second_queued st g a.c.0 a.d.0 (ne_eqb a.c.0 a.d.0 c.if-c-d.false) (apart (goal.at.returns-then-queued-gt0-2 c).Else-partner-y
     st g sized laid xe ye in_use)
-    (none_queued st g a.c.0 a.x.0 _ xe (c.queued.ensures.value_2 st sized laid) (omega (arith, c.if-queued-gt0.false)))
-    (some_queued st g a.d.0 a.y.0 _ ye (c.queued-2.ensures.value_2 st sized laid) c.if-queued-gt0-2.true)
+    (none_queued st g a.c.0 a.x.0 _ xe (c.queued.ensures.queued st sized laid) (omega (arith, c.if-queued-gt0.false)))
+    (some_queued st g a.d.0 a.y.0 _ ye (c.queued-2.ensures.queued st sized laid) c.if-queued-gt0-2.true)
 
 pub returns : goal.returns
 returns c st g sized laid xe ye in_use =
     let a = c.args in
     no_row st g a.c.0 a.d.0 (ne_eqb a.c.0 a.d.0 c.if-c-d.false) (apart (goal.at.returns c).Else-partner-y st g sized laid xe ye in_use)
-    (none_queued st g a.c.0 a.x.0 _ xe (c.queued.ensures.value_2 st sized laid) (omega (arith, c.if-queued-gt0.false)))
-    (none_queued st g a.d.0 a.y.0 _ ye (c.queued-2.ensures.value_2 st sized laid) (omega (arith, c.if-queued-gt0-2.false)))
+    (none_queued st g a.c.0 a.x.0 _ xe (c.queued.ensures.queued st sized laid) (omega (arith, c.if-queued-gt0.false)))
+    (none_queued st g a.d.0 a.y.0 _ ye (c.queued-2.ensures.queued st sized laid) (omega (arith, c.if-queued-gt0-2.false)))

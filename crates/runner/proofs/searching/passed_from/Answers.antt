@@ -46,7 +46,7 @@ returns-then-queued-eq0 c =
     let s = c.requires.2 in
     let e = a.end.0 in
     let h = c.requires.1 in
-    let empty = sym (c.queued.ensures.value_2 (view m) (memory_sized m s) s.laid_out) ∙ c.if-queued-eq0.true in
+    let empty = sym (c.queued.ensures.queued (view m) (memory_sized m s) s.laid_out) ∙ c.if-queued-eq0.true in
     let no_step = nothing_meets (view m) e h s.state_sound c.partner.result.0
     (partner-here (goal.at.returns-then-queued-eq0 c).After-partner).0 empty in
     record {
