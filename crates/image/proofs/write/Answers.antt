@@ -1,5 +1,5 @@
 -- `write` tests the rows of 26 and 27 in their order, and writes the blocks. Assumes nothing.
-use Rattle.std.proofs.Common.{ℕ, ◌*◌, ◌≤◌, length, rules, eq-eqb, ne_eqb, lt-ltb, le-ltb}
+use Rattle.std.proofs.Common.{◌≡◌, List, ℕ, ◌*◌, ◌≤◌, length, arith, rules, eq-eqb, ne_eqb, lt-ltb, le-ltb}
 use Rattle.rules.specs.Limits.{code_limit}
 use Rattle.rules.specs.Refusal.{done}
 use Rattle.rules.specs.Image.{block_size, block_limit, block_count, write_causes, written}
@@ -7,30 +7,22 @@ use Rattle.rules.specs.Calls.{write_answer}
 use Rattle.rules.proofs.Rows.{Passed, none_passed, passed, stopped}
 use Rattle.image.proofs.Writes.{counted, few_blocks, write_refused, write_done}
 use Rattle.image.proofs.write.Goals as goal
-use Rattle.image.proofs.write.Goals.{Else-length-eq0, Else-length-gt-CODE_LIMIT, Else-out-size, Start}
 
 -- ---- what is known on the way
-abbrev Left : Start → ℕ → Type 0
-Left s k = Passed (write_causes s.args.code.now s.args.out.now) (done (written s.args.code.now s.args.out.now)) k
+abbrev Left : (code out : List ℕ) → ℕ → Type 0
+Left code out k = Passed (write_causes code out) (done (written code out)) k
 
-left-1 : (c : Else-length-eq0) → Left c.before.before.before.before.before 1
+some_code : (code out : List ℕ) → (length code ≡ 0 → ⊥) → Left code out 1
 unfolding write_causes
-left-1 c = passed none_passed (ne_eqb (length c.args.code.now) 0 c.if-length-eq0.false)
+some_code code out h = passed none_passed (ne_eqb (length code) 0 h)
 
-left-2 : (c : Else-length-gt-CODE_LIMIT) (left-1_here : Left c.before.before.before.before.before.before 1)
-    → Left c.before.before.before.before.before.before 2
+few_bytes : (code out : List ℕ) → Left code out 1 → length code ≤ code_limit → Left code out 2
 unfolding write_causes
-left-2 c left-1_here =
-    let code = c.args.code.now in
-    passed left-1_here (le-ltb code_limit (length code) c.if-length-gt-CODE_LIMIT.false)
+few_bytes code out before h = passed before (le-ltb code_limit (length code) h)
 
-left-3 : (c : Else-out-size) (left-2_here : Left c.before.before.before.before.before.before.before 2)
-    → Left c.before.before.before.before.before.before.before 3
+enough_room : (code out : List ℕ) → Left code out 2 → block_size * block_count (length code) ≤ length out → Left code out 3
 unfolding write_causes
-left-3 c left-2_here =
-    let a = c.args in
-    let n = block_size * block_count (length a.code.now) in
-    passed left-2_here (le-ltb (length a.out.now) n (rw c.block_count-count.ensures at c.if-out-size.false))
+enough_room code out before h = passed before (le-ltb (length out) (block_size * block_count (length code)) h)
 
 pub overflow_mul-size : goal.overflow_mul-size
 overflow_mul-size c =
@@ -54,7 +46,7 @@ unfolding write_answer write_causes
 returns-then-length-gt-CODE_LIMIT c =
     let a = c.args in
     let told = write_refused a.code.now a.out.now
-    (stopped (left-1 (goal.at.returns-then-length-gt-CODE_LIMIT c).Else-length-eq0)
+    (stopped (some_code a.code.now a.out.now c.if-length-eq0.false)
     (lt-ltb code_limit (length a.code.now) c.if-length-gt-CODE_LIMIT.true)) in
     record {
       number = told.0;
@@ -68,9 +60,9 @@ returns-then-out-size c =
     let a = c.args in
     let n = block_size * block_count (length a.code.now) in
     let short = lt-ltb (length a.out.now) n (rw c.block_count-count.ensures at c.if-out-size.true) in
+    let within : length a.code.now ≤ code_limit = omega arith in
     let told = write_refused a.code.now a.out.now
-    (stopped (left-2 (goal.at.returns-then-out-size c).Else-length-gt-CODE_LIMIT
-    (left-1 (goal.at.returns-then-out-size c).Else-length-eq0)) short) in
+    (stopped (few_bytes a.code.now a.out.now (some_code a.code.now a.out.now c.if-length-eq0.false) within) short) in
     record {
       number = told.0;
       memory = told.1.0;
@@ -91,9 +83,11 @@ write_blocks-requires c =
 pub returns : goal.returns
 returns c =
     let a = c.args in
-    let told = write_done a.code.now a.out.now (left-3 (goal.at.returns c).Else-out-size
-    (left-2 (goal.at.returns c).Else-length-gt-CODE_LIMIT (left-1 (goal.at.returns c).Else-length-eq0)))
-    c.block_count-count.ensures c.write_blocks.ensures in
+    let within : length a.code.now ≤ code_limit = omega arith in
+    let room = rw c.block_count-count.ensures at c.if-out-size.false in
+    let rows = enough_room a.code.now a.out.now
+    (few_bytes a.code.now a.out.now (some_code a.code.now a.out.now c.if-length-eq0.false) within) room in
+    let told = write_done a.code.now a.out.now rows c.block_count-count.ensures c.write_blocks.ensures in
     record {
       number = told.0;
       memory = told.1.0;

@@ -1,5 +1,6 @@
 -- `read_data` tests the rows from 22 on in their order: each is passed, or the first that holds decides. Assumes nothing.
-use Rattle.std.proofs.Common.{◌≡◌, sym, ap, ◌∙◌, true, not, ℕ, ◌+◌, ◌-◌, ◌*◌, ◌≤◌, arith, length, get_or, eq-eqb, ne_eqb, lt-ltb, le-ltb}
+use Rattle.std.proofs.Common.{List, ◌≡◌, sym, ap, ◌∙◌, true, not, ℕ, ◌+◌, ◌-◌, ◌*◌, ◌≤◌, arith, length, get_or, eq-eqb, ne_eqb, lt-ltb}
+use Rattle.std.proofs.Common.{le-ltb}
 use Rattle.rules.specs.Limits.{code_limit}
 use Rattle.rules.specs.Refusal.{refused, done, unless}
 use Rattle.rules.specs.Image.{data_size, head_size, block_count, code_in, read_causes}
@@ -9,39 +10,39 @@ use Rattle.image.proofs.Causes.{data_rows, last_block, first_row, second_row, no
 use Rattle.image.proofs.Causes.{count_row, zeros_row, found_size, rows_end}
 use Rattle.image.proofs.reading.read_data.Goals as goal
 use Rattle.image.proofs.reading.read_data.Goals.{After-any_nonzero, Else-block_count-count, Else-image-ne0, Else-image-ne1, Else-length-eq0}
-use Rattle.image.proofs.reading.read_data.Goals.{Else-length-gt-CODE_LIMIT, Start}
+use Rattle.image.proofs.reading.read_data.Goals.{Else-length-gt-CODE_LIMIT}
 
 -- ---- the rows that are passed on the way
-abbrev Left : Start → ℕ → Type 0
-Left s k = Passed (data_rows s.args.image.now) (done (code_in s.args.image.now)) k
+abbrev Left : List ℕ → ℕ → Type 0
+Left image k = Passed (data_rows image) (done (code_in image)) k
 
 -- a row that holds
-wrong : (s : Start) {k : ℕ} → Left s k → (row_at (data_rows s.args.image.now) k).1 ≡ true
-    → refused (row_at (data_rows s.args.image.now) k).0
-    ≡ length_read (unless (data_rows s.args.image.now) (done (code_in s.args.image.now)))
-wrong s p e = sym (ap length_read (stopped p e))
+wrong : (image : List ℕ) {k : ℕ} → Left image k → (row_at (data_rows image) k).1 ≡ true
+    → refused (row_at (data_rows image) k).0
+    ≡ length_read (unless (data_rows image) (done (code_in image)))
+wrong image p e = sym (ap length_read (stopped p e))
 
-left-1 : (c : Else-image-ne1) → Left c.before.before.before.before 1
+left-1 : (c : Else-image-ne1) → Left c.args.image.now 1
 left-1 c =
     let image = c.args.image.now in
     passed none_passed (first_row c.args.count image c.requires.count_value c.requires.count_nonzero
     ∙ ap not (eq-eqb (get_or image 0 0) 1 c.if-image-ne1.false))
 
-left-2 : (c : Else-image-ne0) (left-1_here : Left c.before.before.before.before.before.before 1)
-    → Left c.before.before.before.before.before.before 2
+left-2 : (c : Else-image-ne0) (left-1_here : Left c.args.image.now 1)
+    → Left c.args.image.now 2
 left-2 c left-1_here =
     let image = c.args.image.now in
     let row = second_row c.args.count image c.requires.count_value c.requires.count_nonzero in
     passed left-1_here (row ∙ ap not (eq-eqb (get_or image 1 0) 0 c.if-image-ne0.false))
 
-left-3 : (c : Else-length-eq0) (left-2_here : Left c.before.before.before.before.before.before.before.before 2)
-    → Left c.before.before.before.before.before.before.before.before 3
+left-3 : (c : Else-length-eq0) (left-2_here : Left c.args.image.now 2)
+    → Left c.args.image.now 3
 left-3 c left-2_here =
     let row = none_row c.args.count c.args.image.now c.requires.count_value c.requires.count_nonzero c.code_length-length.ensures in
     passed left-2_here (row ∙ ne_eqb c.code_length-length.result 0 c.if-length-eq0.false)
 
-left-4 : (c : Else-length-gt-CODE_LIMIT) (left-3_here : Left c.before.before.before.before.before.before.before.before.before 3)
-    → Left c.before.before.before.before.before.before.before.before.before 4
+left-4 : (c : Else-length-gt-CODE_LIMIT) (left-3_here : Left c.args.image.now 3)
+    → Left c.args.image.now 4
 left-4 c left-3_here =
     let L = c.code_length-length in
     let row = many_row c.args.count c.args.image.now c.requires.count_value c.requires.count_nonzero L.ensures in
@@ -53,8 +54,8 @@ counted : (c : Else-block_count-count)
 counted c = sym c.block_count.ensures ∙ c.if-block_count-count.false
 
 left-5 : (c : Else-block_count-count)
-    (left-4_here : Left c.before.before.before.before.before.before.before.before.before.before.before 4)
-    → Left c.before.before.before.before.before.before.before.before.before.before.before 5
+    (left-4_here : Left c.args.image.now 4)
+    → Left c.args.image.now 5
 left-5 c left-4_here =
     let L = c.code_length-length in
     let row = count_row c.args.count c.args.image.now c.requires.count_value c.requires.count_nonzero L.ensures in
@@ -65,21 +66,21 @@ unfolding read_causes
 returns-then-image-ne1 c =
     let image = c.args.image.now in
     let row = first_row c.args.count image c.requires.count_value c.requires.count_nonzero in
-    wrong (goal.at.returns-then-image-ne1 c).Start none_passed (row ∙ ap not (ne_eqb (get_or image 0 0) 1 c.if-image-ne1.true))
+    wrong c.args.image.now none_passed (row ∙ ap not (ne_eqb (get_or image 0 0) 1 c.if-image-ne1.true))
 
 pub returns-then-image-ne0 : goal.returns-then-image-ne0
 unfolding read_causes
 returns-then-image-ne0 c =
     let image = c.args.image.now in
     let row = second_row c.args.count image c.requires.count_value c.requires.count_nonzero in
-    wrong (goal.at.returns-then-image-ne0 c).Start (left-1 (goal.at.returns-then-image-ne0 c).Else-image-ne1) (row
+    wrong c.args.image.now (left-1 (goal.at.returns-then-image-ne0 c).Else-image-ne1) (row
     ∙ ap not (ne_eqb (get_or image 1 0) 0 c.if-image-ne0.true))
 
 pub returns-then-length-eq0 : goal.returns-then-length-eq0
 unfolding read_causes
 returns-then-length-eq0 c =
     let row = none_row c.args.count c.args.image.now c.requires.count_value c.requires.count_nonzero c.code_length-length.ensures in
-    wrong (goal.at.returns-then-length-eq0 c).Start (left-2 (goal.at.returns-then-length-eq0 c).Else-image-ne0
+    wrong c.args.image.now (left-2 (goal.at.returns-then-length-eq0 c).Else-image-ne0
     (left-1 (goal.at.returns-then-length-eq0 c).Else-image-ne1)) (row ∙ eq-eqb c.code_length-length.result 0 c.if-length-eq0.true)
 
 pub returns-then-length-gt-CODE_LIMIT : goal.returns-then-length-gt-CODE_LIMIT
@@ -87,7 +88,7 @@ unfolding read_causes
 returns-then-length-gt-CODE_LIMIT c =
     let L = c.code_length-length in
     let row = many_row c.args.count c.args.image.now c.requires.count_value c.requires.count_nonzero L.ensures in
-    wrong (goal.at.returns-then-length-gt-CODE_LIMIT c).Start (left-3 (goal.at.returns-then-length-gt-CODE_LIMIT c).Else-length-eq0
+    wrong c.args.image.now (left-3 (goal.at.returns-then-length-gt-CODE_LIMIT c).Else-length-eq0
     (left-2 (goal.at.returns-then-length-gt-CODE_LIMIT c).Else-image-ne0
     (left-1 (goal.at.returns-then-length-gt-CODE_LIMIT c).Else-image-ne1))) (row
     ∙ lt-ltb code_limit L.result c.if-length-gt-CODE_LIMIT.true)
@@ -98,7 +99,7 @@ returns-then-block_count-count c =
     let L = c.code_length-length in
     let row = count_row c.args.count c.args.image.now c.requires.count_value c.requires.count_nonzero L.ensures in
     let other : (block_count L.result ≡ c.args.count → ⊥) = λ e. c.if-block_count-count.true (c.block_count.ensures ∙ e) in
-    wrong (goal.at.returns-then-block_count-count c).Start (left-4 (goal.at.returns-then-block_count-count c).Else-length-gt-CODE_LIMIT
+    wrong c.args.image.now (left-4 (goal.at.returns-then-block_count-count c).Else-length-gt-CODE_LIMIT
     (left-3 (goal.at.returns-then-block_count-count c).Else-length-eq0 (left-2 (goal.at.returns-then-block_count-count c).Else-image-ne0
     (left-1 (goal.at.returns-then-block_count-count c).Else-image-ne1)))) (row ∙ ap not (ne_eqb (block_count L.result) c.args.count other))
 
@@ -133,7 +134,7 @@ padding c counted_here =
 pub returns-then-any_nonzero : goal.returns-then-any_nonzero
 unfolding read_causes
 returns-then-any_nonzero c =
-    wrong (goal.at.returns-then-any_nonzero c).Start (left-5 (goal.at.returns-then-any_nonzero c).Else-block_count-count
+    wrong c.args.image.now (left-5 (goal.at.returns-then-any_nonzero c).Else-block_count-count
     (left-4 (goal.at.returns-then-any_nonzero c).Else-length-gt-CODE_LIMIT (left-3 (goal.at.returns-then-any_nonzero c).Else-length-eq0
     (left-2 (goal.at.returns-then-any_nonzero c).Else-image-ne0 (left-1 (goal.at.returns-then-any_nonzero c).Else-image-ne1)))))
     (padding (goal.at.returns-then-any_nonzero c).After-any_nonzero (counted (goal.at.returns-then-any_nonzero c).Else-block_count-count)
