@@ -1,9 +1,13 @@
--- `read_full` reads behind what is read. The invariant: what is read fits the buffer. Assumes nothing.
-use Rattle.std.proofs.Common.{◌-◌, ◌≤◌, length}
+-- `read_full` reads behind what is read. The invariant: the first n bytes are those that were taken from the input. Assumes nothing.
+use Rattle.std.proofs.Common.{◌≡◌, ◌-◌, ◌≤◌, length, take}
+use Rattle.std.specs.Io.KnownBytes.{Consumes}
 use Rattle.input.proofs.read_full.Given as goal
 
 abbrev pub invariant-loop-n : goal.invariant-loop-n
-invariant-loop-n g l = l.n ≤ length l.buffer
+invariant-loop-n g l =
+    (length l.buffer ≡ length l.initial.buffer)
+    × (l.n ≤ length l.buffer)
+    × Consumes (g.R.Read.remaining l.initial.reader) (g.R.Read.remaining l.reader) (take l.n l.buffer)
 
 abbrev pub decreases-loop-n : goal.decreases-loop-n
 decreases-loop-n g l = length l.initial.buffer - l.n
