@@ -1,4 +1,5 @@
 -- `code::decode` meets its contract: a place past the code, and a fixed part that runs past it, are refused here; the rest is
+-- `decode_fixed`'s. Assumes nothing.
 use Rattle.std.proofs.Common.{ap, ◌∙◌, ℕ, arith}
 use Rattle.rules.specs.Instruction.{size_of, form_of}
 use Rattle.code.proofs.Decoding.{outside, short}

@@ -1,4 +1,5 @@
 -- `copy_code` copies one run of the code for each block. The invariant: data up to p is copied, which for i blocks is all of theirs, but
+-- neither the head nor what is past the code. Assumes nothing.
 use Rattle.std.proofs.Common.{◌≡◌, sym, ◌∙◌, ◌+◌, ◌-◌, ◌*◌, ◌≤◌, arith, length, length-take, take_all}
 use Rattle.rules.specs.Image.{data_size, head_size, blocks_in, code_length, code_in}
 use Rattle.image.proofs.Right.{Right, right_of}
@@ -29,7 +30,7 @@ run c stated_here =
     run_is (blocks_in image) L c.loop-i.i c.loop-i.p c.least-stop.result c.loop-i-test.true last
     c.loop-i.invariant.1 c.least-stop.ensures
 
--- ---- the needs
+-- ---- the goals
 pub code_length-end-requires : goal.code_length-end-requires
 code_length-end-requires c = let r = right (goal.at.code_length-end-requires c).Start in let some = r.some in omega arith
 

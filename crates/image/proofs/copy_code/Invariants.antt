@@ -1,4 +1,5 @@
 -- `copy_code` copies one run of the code for each block. The invariant: data up to p is copied, which for i blocks is all of theirs, but
+-- neither the head nor what is past the code. Assumes nothing.
 use Rattle.std.proofs.Common.{◌≡◌, ◌-◌, ◌*◌, ◌≤◌, min, max, length, take}
 use Rattle.words.specs.Parts.{put_at}
 use Rattle.rules.specs.Image.{data_size, head_size, code_in}

@@ -1,3 +1,4 @@
+-- `copy` stores the bytes one after the other. The invariant: the first i are written. Assumes nothing.
 use mathlib.Core.Path.{◌≡◌}
 use Prim.Native.Nat.{◌-◌, ◌≤◌}
 use lib.ListN.{length, take}

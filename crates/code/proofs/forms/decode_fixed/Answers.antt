@@ -1,4 +1,5 @@
 -- `code::forms::decode_fixed` meets its contract: each arm is the law of `fixed` at the row of its first byte, and past all arms no row
+-- has the byte. Assumes nothing.
 use Rattle.std.proofs.Common.{◌≡◌, refl, sym, ap, ◌∙◌, ℕ, ◌+◌, ◌≤◌, ◌<◌, arith, rules, length, w32, to_z-of_z}
 use mathlib.Core.Option.{some}
 use Rattle.rules.specs.Instruction.{Instruction, Name, form, nothing_listed, form_of, form_in, size_of, byte_at, instruction_at, decode}

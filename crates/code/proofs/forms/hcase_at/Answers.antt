@@ -1,4 +1,5 @@
 -- `code::forms::hcase_at` meets its contract: k is tested from below, from above and against the length of the code, and each answer is a
+-- law of the row of hcase. Assumes nothing.
 use Rattle.std.proofs.Common.{◌≡◌, sym, ◌∙◌, ◌+◌, ◌*◌, arith, eq-eqb, ne_eqb, lt-ltb, le-ltb}
 use mathlib.Core.Option.{some}
 use Rattle.rules.specs.Limits.{cases_limit}

@@ -1,4 +1,5 @@
 -- `code::forms::run_at` meets its contract: j is tested against the length of the code, and each answer is a law of the row of run.
+-- Assumes nothing.
 use Rattle.std.proofs.Common.{◌≡◌, refl, ◌∙◌, ◌+◌, arith}
 use mathlib.Core.Option.{some}
 use Rattle.rules.specs.Instruction.{Form, form, run_name, slots_listed, run, form_of, form_in, byte_at, slots_at, instruction_at}

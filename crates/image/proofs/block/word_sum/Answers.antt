@@ -1,4 +1,5 @@
 -- `word_sum` adds the words up from the front. The invariant: what is added up and the sum of the words left are the sum of all, and each
+-- word is at most 65,535. Assumes nothing.
 use Rattle.std.proofs.Common.{◌≡◌, ◌+◌, ◌*◌, arith}
 use Rattle.image.proofs.Checks.{sum_next, sum_end}
 use Rattle.image.proofs.block.word_sum.Goals as goal

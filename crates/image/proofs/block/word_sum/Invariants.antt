@@ -1,4 +1,5 @@
 -- `word_sum` adds the words up from the front. The invariant: what is added up and the sum of the words left are the sum of all, and each
+-- word is at most 65,535. Assumes nothing.
 use Rattle.std.proofs.Common.{◌≡◌, ◌+◌, ◌*◌, ◌-◌, ◌≤◌, drop}
 use Rattle.rules.specs.Image.{word_sum}
 use Rattle.image.proofs.block.word_sum.Given as goal

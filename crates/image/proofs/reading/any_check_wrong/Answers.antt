@@ -1,4 +1,5 @@
 -- `any_check_wrong` looks at the blocks from the front. The invariant: the blocks before i are right, so that a wrong one is among the n
+-- that are left. Assumes nothing.
 use Rattle.std.proofs.Common.{◌≡◌, sym, ap, ◌∙◌, ℕ, suc, ◌+◌, ◌*◌, ◌-◌, arith, take, drop}
 use Rattle.rules.specs.Image.{block_size}
 use Rattle.image.proofs.Checks.{is_right, checks_next, checks_stop, checks_end}

@@ -1,4 +1,5 @@
 -- `any_check_wrong` looks at the blocks from the front. The invariant: the blocks before i are right, so that a wrong one is among the n
+-- that are left. Assumes nothing.
 use Rattle.std.proofs.Common.{◌≡◌, ℕ, ◌+◌, ◌*◌, ◌-◌, ◌≤◌, drop}
 use Rattle.rules.specs.Image.{block_size, any_check_wrong}
 use Rattle.image.proofs.reading.any_check_wrong.Given as goal

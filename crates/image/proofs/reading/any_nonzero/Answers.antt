@@ -1,4 +1,5 @@
 -- `any_nonzero` looks at the bytes from the front. The invariant: those before i are zero, so that another one is among those from i on.
+-- Assumes nothing.
 use Rattle.std.proofs.Common.{sym, ◌∙◌, arith}
 use Rattle.image.proofs.Zeros.{zeros_next, zeros_stop, zeros_end}
 use Rattle.image.proofs.reading.any_nonzero.Goals as goal

@@ -1,4 +1,5 @@
 -- `write_blocks` writes one block after the other. The invariant: the first i are written, and all behind them is as it was.
+-- Assumes nothing.
 use Rattle.std.proofs.Common.{◌≡◌, refl, ap, ◌∙◌, ◌+◌, ◌-◌, ◌*◌, arith, length}
 use Rattle.rules.specs.Image.{block_size, headed, blocks}
 use Rattle.image.proofs.Writes.{blocks_more, blocks_size}

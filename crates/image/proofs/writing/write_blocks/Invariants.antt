@@ -1,4 +1,5 @@
 -- `write_blocks` writes one block after the other. The invariant: the first i are written, and all behind them is as it was.
+-- Assumes nothing.
 use Rattle.std.proofs.Common.{◌≡◌, ◌++◌, ◌-◌, ◌*◌, ◌≤◌, length, drop}
 use Rattle.rules.specs.Bytes.{pad}
 use Rattle.rules.specs.Image.{block_size, data_size, headed, blocks}

@@ -1,4 +1,5 @@
 -- `any_empty` looks at one listed slot after the other. The invariant: some is empty exactly if one behind the first k is.
+-- Assumes nothing.
 use Rattle.std.proofs.Common.{ap, arith, get_or, not}
 use mathlib.Core.Option.{none}
 use Rattle.registers.proofs.SlotLaws.{held_byte, empty_byte}

@@ -1,4 +1,5 @@
 -- `any_empty` looks at one listed slot after the other. The invariant: some is empty exactly if one behind the first k is.
+-- Assumes nothing.
 use Rattle.std.proofs.Common.{◌≡◌, ◌-◌, ◌≤◌, length, drop}
 use Rattle.rules.specs.Limits.{slot_count}
 use Rattle.rules.specs.Slots.{Slots, any_empty}

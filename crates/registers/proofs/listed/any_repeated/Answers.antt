@@ -1,4 +1,5 @@
 -- `any_repeated` looks for one listed slot after the other behind it. The invariant: some is repeated exactly if one behind the first k
+-- is. Assumes nothing.
 use Rattle.std.proofs.Common.{◌≡◌, sym, ap, ◌∙◌, ◌+◌, ◌-◌, arith, length, get_or, drop, length-drop, take_all}
 use Rattle.rules.specs.Slots.{listed as in_list}
 use Rattle.registers.proofs.Search.{found, passed, none_found, repeated_search}

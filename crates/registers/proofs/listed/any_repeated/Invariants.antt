@@ -1,4 +1,5 @@
 -- `any_repeated` looks for one listed slot after the other behind it. The invariant: some is repeated exactly if one behind the first k
+-- is. Assumes nothing.
 use Rattle.std.proofs.Common.{◌≡◌, ◌-◌, ◌≤◌, length, drop}
 use Rattle.rules.specs.Slots.{any_repeated}
 use Rattle.registers.proofs.listed.any_repeated.Given as goal

@@ -1,4 +1,5 @@
 -- `not_together` looks at one slot after the other, the sets shifted along. The invariant: the sets are together the held slots exactly if
+-- those shifted by k are, behind the first k slots. Assumes nothing.
 use Rattle.std.proofs.Common.{sym, ◌∙◌, arith, get_or}
 use mathlib.Core.Option.{none}
 use Rattle.registers.proofs.SlotLaws.{slot_byte}

@@ -1,4 +1,5 @@
 -- `not_together` looks at one slot after the other, the sets shifted along. The invariant: the sets are together the held slots exactly if
+-- those shifted by k are, behind the first k slots. Assumes nothing.
 use Rattle.std.proofs.Common.{◌≡◌, ◌-◌, ◌≤◌, length, drop}
 use Rattle.rules.specs.Limits.{slot_count}
 use Rattle.rules.specs.Slots.{Slots, not_together}

@@ -1,4 +1,5 @@
 -- `overlap` looks at one slot after the other, the sets shifted along. The invariant: the sets overlap exactly if those shifted by k do,
+-- behind the first k slots. Assumes nothing.
 use Rattle.std.proofs.Common.{sym, ◌∙◌, arith}
 use mathlib.Core.Option.{none}
 use Rattle.registers.proofs.Search.{found, passed, none_found, overlap_search}

@@ -1,4 +1,5 @@
 -- `behind_first` puts each value one cell back. The invariant: the first k are the next ones, and the last cell is still zero. Assumes
+-- nothing.
 use Rattle.std.proofs.Common.{◌≡◌, ℕ, ◌+◌, ◌-◌, ◌≤◌, get_or, pos}
 use Rattle.rules.specs.Limits.{stack_depth}
 use Rattle.words.proofs.Tables.{Filled}

@@ -1,4 +1,5 @@
 -- `standing_counts` counts the ends that the last items carry, one queue after the other, on top of the slots. The invariant: those of the
+-- first e are counted. Assumes nothing.
 use Rattle.std.proofs.Common.{ap, ℕ, ◌+◌, ◌*◌, arith}
 use Rattle.rules.specs.State.{end_at, last_of}
 use Rattle.rules.specs.Sound.{in_last}

@@ -1,4 +1,5 @@
 -- `standing_counts` counts the ends that the last items carry, one queue after the other, on top of the slots. The invariant: those of the
+-- first e are counted. Assumes nothing.
 use Rattle.std.proofs.Common.{◌+◌, ◌-◌, ◌*◌, ◌≤◌}
 use Rattle.rules.specs.Limits.{end_count}
 use Rattle.soundness.specs.Counts.{slots_in_all, Counted}

@@ -1,4 +1,5 @@
 -- `spell` stores one digit in front of the other. The invariant: what is left to spell stands in front of what is stored, and has room.
+-- Assumes nothing.
 use Rattle.std.proofs.Common.{◌≡◌, sym, ap, subst, ◌∙◌, ℕ, suc, ◌-◌, ◌^◌, ◌<◌, arith, drop, length-set}
 use Rattle.text.proofs.Decimals.{digits_left, digits_all, spell_first, spell_next, some_left, less_left}
 use Rattle.text.proofs.printing.spell.Goals as goal

@@ -1,4 +1,5 @@
 -- `spell` stores one digit in front of the other. The invariant: what is left to spell stands in front of what is stored, and has room.
+-- Assumes nothing.
 use Rattle.std.proofs.Common.{◌≡◌, ◌^◌, ◌≤◌, ◌<◌, length, drop}
 use Rattle.rules.specs.Text.{decimal}
 use Rattle.text.proofs.Decimals.{digits_left}
