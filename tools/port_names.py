@@ -139,7 +139,8 @@ def main():
             t = re.sub(r"(?<![\w'.-])" + old + r"(?![\w'-])", own_name, t)
 
         if p.endswith(".antt"):
-            new = TOKEN.sub(turn, t)
+            # the kit's script had taken the dash of this constructor for that of a type's name
+            new = TOKEN.sub(turn, t).replace("End-step", "end_step")
         else:
             new = turn_source(t, turn)
         for n in names & used:

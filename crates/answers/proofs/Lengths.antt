@@ -17,7 +17,7 @@ use Rattle.rules.specs.Text.{text}
 use Rattle.rules.specs.Printed.{verdict_text}
 use Rattle.keeping.proofs.Memories.{memory_of_test}
 use Rattle.text.proofs.Shortness.{decimal_room}
-use Rattle.commands.specs.Asked.{Asked, unknown, remark, free, dump, load, write, record_step, End-step, run, peek, poke}
+use Rattle.commands.specs.Asked.{Asked, unknown, remark, free, dump, load, write, record_step, end_step, run, peek, poke}
 use Rattle.commands.specs.Asked.{asked, line_limit, first_word, when}
 use Rattle.commands.proofs.Parsing.{remark_short}
 use Rattle.dump.proofs.Lengths.{state_room}
@@ -112,7 +112,7 @@ answer_short line state unknown is size =
 answer_short line state (load image) is size = omega (arith, number_most (text "load ") (calls.load state image).number)
 answer_short line state (write code) is size = written_most code (write_answer code image_room) refl
 answer_short line state (record_step n) is size = omega (arith, step_most (text "R ") n (call_record state n).number)
-answer_short line state (End-step n) is size = omega (arith, step_most (text "E ") n (call_end state n).number)
+answer_short line state (end_step n) is size = omega (arith, step_most (text "E ") n (call_end state n).number)
 answer_short line state (run budget start) is size = ran_most (run_answer state budget start)
 answer_short line state free is size = free_most (call_free_ends state)
 answer_short line state dump is size = dump_most state size (sound_bytes state) refl

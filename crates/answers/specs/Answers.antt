@@ -13,7 +13,7 @@ use Rattle.rules.specs.Text.{text, decimal}
 use Rattle.rules.specs.Printed.{verdict_text}
 use Rattle.words.specs.Parts.{put_at}
 use Rattle.text.specs.Written.{hex_text}
-use Rattle.commands.specs.Asked.{Asked, unknown, remark, free, dump, load, write, record_step, End-step, run, peek, poke}
+use Rattle.commands.specs.Asked.{Asked, unknown, remark, free, dump, load, write, record_step, end_step, run, peek, poke}
 use Rattle.commands.specs.Asked.{line_limit, first_word, when}
 use Rattle.dump.specs.Shown.{state_text}
 
@@ -113,7 +113,7 @@ abbrev pub answer_text : (line state : List ℕ) → Asked → List ℕ
 answer_text line state (load image) = load_answered state image
 answer_text line state (write code) = write_answered code
 answer_text line state (record_step n) = record_answered state n
-answer_text line state (End-step n) = end_answered state n
+answer_text line state (end_step n) = end_answered state n
 answer_text line state (run budget start) = run_answered state budget start
 answer_text line state free = free_answered state
 answer_text line state dump = dump_answered state
@@ -127,7 +127,7 @@ abbrev pub state_after : (state : List ℕ) → Asked → List ℕ
 state_after state (load image) = (calls.load state image).memory
 state_after state (write code) = state
 state_after state (record_step n) = (call_record state n).memory
-state_after state (End-step n) = (call_end state n).memory
+state_after state (end_step n) = (call_end state n).memory
 state_after state (run budget start) = (call_run state budget start).memory
 state_after state free = state
 state_after state dump = state

@@ -13,7 +13,7 @@ use Rattle.commands.specs.declared.Name.TheVariants.{Load, Write, Record, End, R
 pub data Asked : Type 0 where
   unknown remark free dump : Asked
   load write : (bytes : List ℕ) → Asked
-  record_step End-step : (number : ℕ) → Asked
+  record_step end_step : (number : ℕ) → Asked
   run : (budget start : ℕ) → Asked
   peek : (at count : ℕ) → Asked
   poke : (at : ℕ) (bytes : List ℕ) → Asked
@@ -93,7 +93,7 @@ unfoldable pub full_asked : Name → List ℕ → Asked
 full_asked Load words = with_bytes words load
 full_asked Write words = with_bytes words write
 full_asked Record words = with_number (number_in number_limit words) record_step
-full_asked End words = with_number (number_in number_limit words) End-step
+full_asked End words = with_number (number_in number_limit words) end_step
 full_asked Run words = with_numbers budget_limit words run
 full_asked Peek words = with_numbers number_limit words peek
 full_asked Poke words = with_two number_limit words (λ at word. with_bytes word (poke at))

@@ -1,6 +1,6 @@
 -- What a parsed command stands for, with the bytes that its hex word left in the lent buffer. Assumes nothing.
 use Rattle.std.specs.Prelude.{ℕ, List, take}
-use Rattle.commands.specs.Asked.{Asked, unknown, remark, free, dump, load, write, record_step, End-step, run, peek, poke}
+use Rattle.commands.specs.Asked.{Asked, unknown, remark, free, dump, load, write, record_step, end_step, run, peek, poke}
 use Rattle.commands.specs.Asked.{number_limit, budget_limit}
 use Rattle.commands.specs.declared.Name.{Name}
 use Rattle.commands.specs.declared.Command.{Command}
@@ -12,7 +12,7 @@ meaning bytes Command.Remark = remark
 meaning bytes (Command.Load n) = load (take n bytes)
 meaning bytes (Command.Write n) = write (take n bytes)
 meaning bytes (Command.Record n) = record_step n
-meaning bytes (Command.End n) = End-step n
+meaning bytes (Command.End n) = end_step n
 meaning bytes (Command.Run budget start) = run budget start
 meaning bytes Command.Free = free
 meaning bytes Command.Dump = dump
@@ -38,7 +38,7 @@ abbrev pub asks : Name → (first second : ℕ) → List ℕ → Asked
 asks Name.Load first second bytes = load bytes
 asks Name.Write first second bytes = write bytes
 asks Name.Record first second bytes = record_step second
-asks Name.End first second bytes = End-step second
+asks Name.End first second bytes = end_step second
 asks Name.Run first second bytes = run first second
 asks Name.Peek first second bytes = peek first second
 asks Name.Poke first second bytes = poke first bytes

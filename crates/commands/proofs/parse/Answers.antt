@@ -26,9 +26,9 @@ returns-then-n-line c =
     let other = sym c.is_remark.ensures ∙ c.if-is_remark.false in
     let a = c.args in
     let none = c.bare.ensures.within in
-    let asked-bare = line_bare a.line.now c.if-line-gt-LINE_LIMIT.false other l.result l.ensures.is c.if-n-line.true in
+    let asked_bare = line_bare a.line.now c.if-line-gt-LINE_LIMIT.false other l.result l.ensures.is c.if-n-line.true in
     record {
-      is = c.bare.ensures.is a.bytes.now ∙ asked-bare;
+      is = c.bare.ensures.is a.bytes.now ∙ asked_bare;
       within = omega arith;
     }
 
@@ -39,8 +39,8 @@ returns c =
     let line = c.args.line.now in
     let n = l.result + 1 in
     let named = ap (λ (name : Name). full_asked name (take (length line - n) (drop n line))) c.name_in.ensures in
-    let asked-full = line_full line c.if-line-gt-LINE_LIMIT.false other l.result l.ensures.is l.ensures.within c.if-n-line.false in
+    let asked_full = line_full line c.if-line-gt-LINE_LIMIT.false other l.result l.ensures.is l.ensures.within c.if-n-line.false in
     record {
-      is = c.full.ensures.is ∙ named ∙ asked-full;
+      is = c.full.ensures.is ∙ named ∙ asked_full;
       within = c.full.ensures.within;
     }

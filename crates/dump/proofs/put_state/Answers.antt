@@ -27,14 +27,14 @@ whole : (s : Start) → let a = s.args in a.at + length (through_ends (view a.m.
 unfolding state_text text
 whole s = s.requires.m_in_bounds
 
-ends-room : (s : Start) → let a = s.args in a.at + length (through_ends (view a.m.now)) ≤ length a.out.now
-ends-room s = let a = s.args in room_first a.at (through_ends (view a.m.now)) last_line a.out.now (whole s)
+ends_room : (s : Start) → let a = s.args in a.at + length (through_ends (view a.m.now)) ≤ length a.out.now
+ends_room s = let a = s.args in room_first a.at (through_ends (view a.m.now)) last_line a.out.now (whole s)
 
-records-room : (s : Start) → let a = s.args in a.at + length (through_records (view a.m.now)) ≤ length a.out.now
-records-room s =
+records_room : (s : Start) → let a = s.args in a.at + length (through_records (view a.m.now)) ≤ length a.out.now
+records_room s =
     let a = s.args in
     let st = view a.m.now in
-    room_first a.at (through_records st) (ends_text st.ends) a.out.now (ends-room s)
+    room_first a.at (through_records st) (ends_text st.ends) a.out.now (ends_room s)
 
 pub put_code-behind_code-requires : goal.put_code-behind_code-requires
 put_code-behind_code-requires c =
@@ -45,7 +45,7 @@ put_code-behind_code-requires c =
     record {
       m_len = (memory_length m s, s);
       text_of_in_bounds = room_first a.at (through_code (view m)) lines a.out.now
-          (records-room (goal.at.put_code-behind_code-requires c).Start);
+          (records_room (goal.at.put_code-behind_code-requires c).Start);
     }
 
 pub put_records-behind_records-requires : goal.put_records-behind_records-requires
@@ -54,7 +54,7 @@ put_records-behind_records-requires c =
     let s = c.requires.sound_memory in
     record {
       m_len = (memory_length m s, s);
-      m_in_bounds = room_rest (records_text (view m).records) (records-room (goal.at.put_records-behind_records-requires c).Start)
+      m_in_bounds = room_rest (records_text (view m).records) (records_room (goal.at.put_records-behind_records-requires c).Start)
           c.put_code-behind_code.ensures;
     }
 
@@ -65,7 +65,7 @@ put_ends-behind_ends-requires c =
     let written = written_more c.put_code-behind_code.ensures c.put_records-behind_records.ensures in
     record {
       m_len = (memory_length m s, s);
-      m_in_bounds = room_rest (ends_text (view m).ends) (ends-room (goal.at.put_ends-behind_ends-requires c).Start) written;
+      m_in_bounds = room_rest (ends_text (view m).ends) (ends_room (goal.at.put_ends-behind_ends-requires c).Start) written;
     }
 
 pub put_bytes-requires : goal.put_bytes-requires

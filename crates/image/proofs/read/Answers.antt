@@ -17,26 +17,26 @@ wrong : (image : List ℕ) {k : ℕ} → Left image k → (row_at (read_causes i
 unfolding read_image
 wrong image p e = sym (ap length_read (stopped p e))
 
-left-1 : (c : Else-count-image) → Left c.args.image.now 1
+left_1 : (c : Else-count-image) → Left c.args.image.now 1
 unfolding read_causes
-left-1 c =
+left_1 c =
     let image = c.args.image.now in
     passed none_passed (ap not (eq-eqb (block_size * blocks_in image) (length image) c.if-count-image.false))
 
-left-2 : (c : Else-count-eq0) (left-1_here : Left c.args.image.now 1) → Left c.args.image.now 2
+left_2 : (c : Else-count-eq0) (left_1_here : Left c.args.image.now 1) → Left c.args.image.now 2
 unfolding read_causes
-left-2 c left-1_here = passed left-1_here (ne_eqb (blocks_in c.args.image.now) 0 c.if-count-eq0.false)
+left_2 c left_1_here = passed left_1_here (ne_eqb (blocks_in c.args.image.now) 0 c.if-count-eq0.false)
 
-left-3 : (c : Else-count-gt-BLOCK_LIMIT) (left-2_here : Left c.args.image.now 2)
+left_3 : (c : Else-count-gt-BLOCK_LIMIT) (left_2_here : Left c.args.image.now 2)
     → Left c.args.image.now 3
 unfolding read_causes
-left-3 c left-2_here =
-    passed left-2_here (le-ltb block_limit (blocks_in c.args.image.now) c.if-count-gt-BLOCK_LIMIT.false)
+left_3 c left_2_here =
+    passed left_2_here (le-ltb block_limit (blocks_in c.args.image.now) c.if-count-gt-BLOCK_LIMIT.false)
 
-left-4 : (c : Else-any_check_wrong) (left-3_here : Left c.args.image.now 3)
+left_4 : (c : Else-any_check_wrong) (left_3_here : Left c.args.image.now 3)
     → Left c.args.image.now 4
 unfolding read_causes
-left-4 c left-3_here = passed left-3_here (sym c.any_check_wrong.ensures ∙ c.if-any_check_wrong.false)
+left_4 c left_3_here = passed left_3_here (sym c.any_check_wrong.ensures ∙ c.if-any_check_wrong.false)
 
 pub returns-then-count-image : goal.returns-then-count-image
 unfolding read_causes
@@ -48,21 +48,21 @@ returns-then-count-image c =
 pub returns-then-count-eq0 : goal.returns-then-count-eq0
 unfolding read_causes
 returns-then-count-eq0 c =
-    wrong c.args.image.now (left-1 (goal.at.returns-then-count-eq0 c).Else-count-image)
+    wrong c.args.image.now (left_1 (goal.at.returns-then-count-eq0 c).Else-count-image)
     (eq-eqb (blocks_in c.args.image.now) 0 c.if-count-eq0.true)
 
 pub returns-then-count-gt-BLOCK_LIMIT : goal.returns-then-count-gt-BLOCK_LIMIT
 unfolding read_causes
 returns-then-count-gt-BLOCK_LIMIT c =
-    wrong c.args.image.now (left-2 (goal.at.returns-then-count-gt-BLOCK_LIMIT c).Else-count-eq0
-    (left-1 (goal.at.returns-then-count-gt-BLOCK_LIMIT c).Else-count-image)) (lt-ltb block_limit (blocks_in c.args.image.now)
+    wrong c.args.image.now (left_2 (goal.at.returns-then-count-gt-BLOCK_LIMIT c).Else-count-eq0
+    (left_1 (goal.at.returns-then-count-gt-BLOCK_LIMIT c).Else-count-image)) (lt-ltb block_limit (blocks_in c.args.image.now)
     c.if-count-gt-BLOCK_LIMIT.true)
 
 pub returns-then-any_check_wrong : goal.returns-then-any_check_wrong
 unfolding read_causes
 returns-then-any_check_wrong c =
-    wrong c.args.image.now (left-3 (goal.at.returns-then-any_check_wrong c).Else-count-gt-BLOCK_LIMIT
-    (left-2 (goal.at.returns-then-any_check_wrong c).Else-count-eq0 (left-1 (goal.at.returns-then-any_check_wrong c).Else-count-image)))
+    wrong c.args.image.now (left_3 (goal.at.returns-then-any_check_wrong c).Else-count-gt-BLOCK_LIMIT
+    (left_2 (goal.at.returns-then-any_check_wrong c).Else-count-eq0 (left_1 (goal.at.returns-then-any_check_wrong c).Else-count-image)))
     (sym c.any_check_wrong.ensures ∙ c.if-any_check_wrong.true)
 
 pub returns : goal.returns
@@ -70,5 +70,5 @@ unfolding read_image
 returns c =
     c.read_data.ensures
     ∙ ap length_read
-    (sym (left-4 (goal.at.returns c).Else-any_check_wrong (left-3 (goal.at.returns c).Else-count-gt-BLOCK_LIMIT
-    (left-2 (goal.at.returns c).Else-count-eq0 (left-1 (goal.at.returns c).Else-count-image)))).left)
+    (sym (left_4 (goal.at.returns c).Else-any_check_wrong (left_3 (goal.at.returns c).Else-count-gt-BLOCK_LIMIT
+    (left_2 (goal.at.returns c).Else-count-eq0 (left_1 (goal.at.returns c).Else-count-image)))).left)

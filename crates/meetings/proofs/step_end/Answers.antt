@@ -41,28 +41,28 @@ in_use c =
     sym (c.is_free.ensures (view m) (memory_sized m s) s.laid_out) ∙ c.if-is_free.false
 
 -- f is its partner, and one of the ends
-partner-here : (c : After-partner-f)
+partner_here : (c : After-partner-f)
     → let a = c.args in
     (c.partner-f.result.0 ≡ partner_in (view a.m.now) a.end) × (c.partner-f.result.0 < end_count)
-partner-here c =
+partner_here c =
     let m = c.args.m.now in
     let s = c.requires.0 in
     let shown = c.partner-f.ensures (view m) (memory_sized m s) s.laid_out in
     partner_shown (view m) s.state_sound c.args.end (in_use c.before) shown
 
 -- the head of the end's queue, and that of its partner's
-head-here : (c : After-head)
+head_here : (c : After-head)
     → let a = c.args in
     head_of (end_at (view a.m.now) a.end) ≡ head_in c.head.result
-head-here c =
+head_here c =
     let m = c.args.m.now in
     let s = c.requires.0 in
     sym (c.head.ensures (view m) (memory_sized m s) s.laid_out (sound_fits (view m) s.state_sound _))
 
-head-there : (c : After-head-2)
+head_there : (c : After-head-2)
     → let m = c.args.m.now in
     head_of (end_at (view m) c.partner-f.result.0) ≡ head_in c.head-2.result
-head-there c =
+head_there c =
     let m = c.args.m.now in
     let s = c.requires.0 in
     sym (c.head-2.ensures (view m) (memory_sized m s) s.laid_out (sound_fits (view m) s.state_sound _))
@@ -74,37 +74,37 @@ pub returns-in_default : goal.returns-in_default
 returns-in_default c =
     let e = c.args.end in
     let within = lt-leb end_count e c.if-end.false in
-    let empty = head-here (goal.at.returns-in_default c).After-head ∙ ap head_in c.in_default.is in
+    let empty = head_here (goal.at.returns-in_default c).After-head ∙ ap head_in c.in_default.is in
     refused_step 17 (own_empty (view c.args.m.now) e within (in_use (goal.at.returns-in_default c).Else-is_free) empty)
 
 pub head-requires-2 : goal.head-requires-2
-head-requires-2 c = (memory_length _ c.requires.0, (partner-here (goal.at.head-requires-2 c).After-partner-f).1)
+head-requires-2 c = (memory_length _ c.requires.0, (partner_here (goal.at.head-requires-2 c).After-partner-f).1)
 
 pub returns-in_default-head : goal.returns-in_default-head
 returns-in_default-head c =
     let e = c.args.end in
     let within = lt-leb end_count e c.if-end.false in
-    let own = head-here (goal.at.returns-in_default-head c).After-head ∙ ap head_in c.in-Item.is in
-    let empty = head-there (goal.at.returns-in_default-head c).After-head-2 ∙ ap head_in c.in_default-head.is in
+    let own = head_here (goal.at.returns-in_default-head c).After-head ∙ ap head_in c.in-Item.is in
+    let empty = head_there (goal.at.returns-in_default-head c).After-head-2 ∙ ap head_in c.in_default-head.is in
     refused_step 17
     (partner_empty (view c.args.m.now) e within (in_use (goal.at.returns-in_default-head c).Else-is_free) _
-    (partner-here (goal.at.returns-in_default-head c).After-partner-f).0 own empty)
+    (partner_here (goal.at.returns-in_default-head c).After-partner-f).0 own empty)
 
 pub meet-requires : goal.meet-requires
 meet-requires c =
     let p = c.requires in
-    let own = head-here (goal.at.meet-requires c).After-head ∙ ap head_in c.in-Item.is in
+    let own = head_here (goal.at.meet-requires c).After-head ∙ ap head_in c.in-Item.is in
     record {
-      sound_memory = (p.0, p.1, c.if-end.false, (partner-here (goal.at.meet-requires c).After-partner-f).1);
-      e_value = (own, head-there (goal.at.meet-requires c).After-head-2 ∙ ap head_in c.in-Item-head.is);
+      sound_memory = (p.0, p.1, c.if-end.false, (partner_here (goal.at.meet-requires c).After-partner-f).1);
+      e_value = (own, head_there (goal.at.meet-requires c).After-head-2 ∙ ap head_in c.in-Item-head.is);
     }
 
 pub returns : goal.returns
 returns c =
     let e = c.args.end in
     let within = lt-leb end_count e c.if-end.false in
-    let own = head-here (goal.at.returns c).After-head ∙ ap head_in c.in-Item.is in
-    let other = head-there (goal.at.returns c).After-head-2 ∙ ap head_in c.in-Item-head.is in
+    let own = head_here (goal.at.returns c).After-head ∙ ap head_in c.in-Item.is in
+    let other = head_there (goal.at.returns c).After-head-2 ∙ ap head_in c.in-Item-head.is in
     promised_as _ (both_head (view c.args.m.now) e within (in_use (goal.at.returns c).Else-is_free) _
-    (partner-here (goal.at.returns c).After-partner-f).0 own other)
+    (partner_here (goal.at.returns c).After-partner-f).0 own other)
     c.meet.ensures

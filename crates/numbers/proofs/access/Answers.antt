@@ -53,7 +53,7 @@ returns c g is =
     let fits : SFits w32 c.environment_value-v.result =
     record { sfits = subst ValueWithin (sym value) ((registers_ok m s _ g is).environment_values a.n) } in
     let Moved-value = to_z-of_z {w = w32} fits ∙ value in
-    let pushed-is = c.push-pushed.ensures.value g x ∙ ap (λ (z : ℤ). registers_of (pushed g z)) Moved-value in
-    let moved = c.at.ensures _ pushed-is in
+    let pushed_is = c.push-pushed.ensures.value g x ∙ ap (λ (z : ℤ). registers_of (pushed g z)) Moved-value in
+    let moved = c.at.ensures _ pushed_is in
     done_step m _ (access_done (view m) _ _ g _ (stack_room g x c.if-held-ge16.false) there)
     (c.save_running.ensures (view m) _ (memory_sized m s) s.laid_out moved)

@@ -9,15 +9,15 @@ use Rattle.canonical.proofs.Tests.{false_at, last_decides}
 use Rattle.canonical.proofs.records.registers_are_canonical.Goals as goal
 
 -- the count that was read is the record's
-stack-behind : (p : List ℕ) {n : ℕ} → n ≡ get_or p 3 0
+stack_behind : (p : List ℕ) {n : ℕ} → n ≡ get_or p 3 0
     → all_zero (part (stack_from + value_size * n) environment_from p) ≡ all_zero
     (part (stack_from + value_size * get_or p 3 0) environment_from p)
-stack-behind p e = ap (λ (k : ℕ). all_zero (part (stack_from + value_size * k) environment_from p)) e
+stack_behind p e = ap (λ (k : ℕ). all_zero (part (stack_from + value_size * k) environment_from p)) e
 
-environment-behind : (p : List ℕ) {n : ℕ} → n ≡ get_or p 4 0
+environment_behind : (p : List ℕ) {n : ℕ} → n ≡ get_or p 4 0
     → all_zero (part (environment_from + value_size * n) record_size p) ≡ all_zero
     (part (environment_from + value_size * get_or p 4 0) record_size p)
-environment-behind p e = ap (λ (k : ℕ). all_zero (part (environment_from + value_size * k) record_size p)) e
+environment_behind p e = ap (λ (k : ℕ). all_zero (part (environment_from + value_size * k) record_size p)) e
 
 pub returns-then-stacked-gt-STACK_DEPTH : goal.returns-then-stacked-gt-STACK_DEPTH
 unfolding canonical_registers
@@ -41,7 +41,7 @@ pub returns-then-not-all_zero : goal.returns-then-not-all_zero
 unfolding canonical_registers
 returns-then-not-all_zero c =
     let p = c.args.bytes.now in
-    let tested = c.all_zero.ensures ∙ stack-behind p c.wide-stacked.ensures in
+    let tested = c.all_zero.ensures ∙ stack_behind p c.wide-stacked.ensures in
     sym (false_at _ 3 (sym tested ∙ c.if-not-all_zero.true))
 
 pub returns : goal.returns
@@ -51,9 +51,9 @@ returns c =
     let few = le-leb (get_or p 3 0) stack_depth (rw c.wide-stacked.ensures at c.if-stacked-gt-STACK_DEPTH.false) in
     let few_bound = le-leb (get_or p 4 0) environment_depth (rw c.wide-bound.ensures at c.if-bound-gt-ENVIRONMENT_DEPTH.false) in
     let slots = sym c.slots_fit.ensures ∙ c.if-not-slots_fit.false in
-    let stack = sym (c.all_zero.ensures ∙ stack-behind p c.wide-stacked.ensures)
+    let stack = sym (c.all_zero.ensures ∙ stack_behind p c.wide-stacked.ensures)
     ∙ c.if-not-all_zero.false in
-    c.all_zero-2.ensures ∙ environment-behind p c.wide-bound.ensures
+    c.all_zero-2.ensures ∙ environment_behind p c.wide-bound.ensures
     ∙ sym (last_decides (leb (get_or p 3 0) stack_depth ∷ leb (get_or p 4 0) environment_depth ∷ all slot_fits
     (part slots_from stack_from p)
     ∷ all_zero (part (stack_from + value_size * get_or p 3 0) environment_from p) ∷ [])

@@ -31,56 +31,56 @@ returns-then-wrong_slots c g w e =
     stop_group g (this (goal.at.returns-then-wrong_slots c).Start) 8 (slots (goal.at.returns-then-wrong_slots c).Start g) _ refl
     (c.wrong_slots.ensures.is g w e) c.if-wrong_slots.true
 
-row-1 : (c : Else-wrong_slots) → At c.before.before 4
+row_1 : (c : Else-wrong_slots) → At c.before.before 4
 unfolding own_causes
-row-1 c g w e =
+row_1 c g w e =
     next_group g (this c.before.before) 8 (slots c.before.before g) _ refl (c.wrong_slots.ensures.is g w e) c.if-wrong_slots.false 4 refl
 
 pub returns-then-in_set : goal.returns-then-in_set
 unfolding own_causes
-returns-then-in_set c g w e = stop (row-1 (goal.at.returns-then-in_set c).Else-wrong_slots g w e) c.in_set.ensures c.if-in_set.true
+returns-then-in_set c g w e = stop (row_1 (goal.at.returns-then-in_set c).Else-wrong_slots g w e) c.in_set.ensures c.if-in_set.true
 
-row-2 : (c : Else-in_set) → At c.before.before.before.before 5
+row_2 : (c : Else-in_set) → At c.before.before.before.before 5
 unfolding own_causes
-row-2 c g w e = next (row-1 c.before.before g w e) c.in_set.ensures c.if-in_set.false
+row_2 c g w e = next (row_1 c.before.before g w e) c.in_set.ensures c.if-in_set.false
 
 pub returns-then-in_set-2 : goal.returns-then-in_set-2
 unfolding own_causes
-returns-then-in_set-2 c g w e = stop (row-2 (goal.at.returns-then-in_set-2 c).Else-in_set g w e) c.in_set-2.ensures c.if-in_set-2.true
+returns-then-in_set-2 c g w e = stop (row_2 (goal.at.returns-then-in_set-2 c).Else-in_set g w e) c.in_set-2.ensures c.if-in_set-2.true
 
-row-3 : (c : Else-in_set-2) → At c.before.before.before.before.before.before 6
+row_3 : (c : Else-in_set-2) → At c.before.before.before.before.before.before 6
 unfolding own_causes
-row-3 c g w e = next (row-2 c.before.before g w e) c.in_set-2.ensures c.if-in_set-2.false
+row_3 c g w e = next (row_2 c.before.before g w e) c.in_set-2.ensures c.if-in_set-2.false
 
 pub returns-then-overlap : goal.returns-then-overlap
 unfolding own_causes
 returns-then-overlap c g w e =
-    stop (row-3 (goal.at.returns-then-overlap c).Else-in_set-2 g w e) (c.overlap.ensures g.slots w.slots_within) c.if-overlap.true
+    stop (row_3 (goal.at.returns-then-overlap c).Else-in_set-2 g w e) (c.overlap.ensures g.slots w.slots_within) c.if-overlap.true
 
-row-4 : (c : Else-overlap) → At c.before.before.before.before.before.before.before.before 7
+row_4 : (c : Else-overlap) → At c.before.before.before.before.before.before.before.before 7
 unfolding own_causes
-row-4 c g w e = next (row-3 c.before.before g w e) (c.overlap.ensures g.slots w.slots_within) c.if-overlap.false
+row_4 c g w e = next (row_3 c.before.before g w e) (c.overlap.ensures g.slots w.slots_within) c.if-overlap.false
 
 pub returns-then-others_not_together : goal.returns-then-others_not_together
 unfolding own_causes
 returns-then-others_not_together c g w e =
-    stop (row-4 (goal.at.returns-then-others_not_together c).Else-overlap g w e) (c.others_not_together.ensures g w e)
+    stop (row_4 (goal.at.returns-then-others_not_together c).Else-overlap g w e) (c.others_not_together.ensures g w e)
     c.if-others_not_together.true
 
-row-5 : (c : Else-others_not_together) → At c.before.before.before.before.before.before.before.before.before.before 8
+row_5 : (c : Else-others_not_together) → At c.before.before.before.before.before.before.before.before.before.before 8
 unfolding own_causes
-row-5 c g w e = next (row-4 c.before.before g w e) (c.others_not_together.ensures g w e) c.if-others_not_together.false
+row_5 c g w e = next (row_4 c.before.before g w e) (c.others_not_together.ensures g w e) c.if-others_not_together.false
 
 pub returns-then-stack_not_empty : goal.returns-then-stack_not_empty
 unfolding own_causes
 returns-then-stack_not_empty c g w e =
-    stop (row-5 (goal.at.returns-then-stack_not_empty c).Else-others_not_together g w e)
+    stop (row_5 (goal.at.returns-then-stack_not_empty c).Else-others_not_together g w e)
     (c.stack_not_empty.ensures g w e) c.if-stack_not_empty.true
 
-row-6 : (c : Else-stack_not_empty) → At c.before.before.before.before.before.before.before.before.before.before.before.before 9
+row_6 : (c : Else-stack_not_empty) → At c.before.before.before.before.before.before.before.before.before.before.before.before 9
 unfolding own_causes
-row-6 c g w e = next (row-5 c.before.before g w e) (c.stack_not_empty.ensures g w e) c.if-stack_not_empty.false
+row_6 c g w e = next (row_5 c.before.before g w e) (c.stack_not_empty.ensures g w e) c.if-stack_not_empty.false
 
 pub returns : goal.returns
 unfolding own_causes
-returns c g w e = through (row-6 c g w e) refl
+returns c g w e = through (row_6 c g w e) refl

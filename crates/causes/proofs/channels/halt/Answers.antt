@@ -13,43 +13,43 @@ use Rattle.causes.proofs.channels.halt.Goals.{Else-empty, Else-others_held, Else
 abbrev At : Start → ℕ → Type 0
 At s k = (g : Process) → RegistersWithin g → s.args.held ≡ registers_of g → OwnPassed g (halt s.args.c.0) k
 
-row-0 : (s : Start) → At s 0
-row-0 s g w e = first g _
+row_0 : (s : Start) → At s 0
+row_0 s g w e = first g _
 
 pub returns-then-over : goal.returns-then-over
 unfolding own_causes
-returns-then-over c g w e = stop (row-0 (goal.at.returns-then-over c).Start g w e) c.over.ensures c.if-over.true
+returns-then-over c g w e = stop (row_0 (goal.at.returns-then-over c).Start g w e) c.over.ensures c.if-over.true
 
-row-1 : (c : Else-over) → At c.before.before 1
+row_1 : (c : Else-over) → At c.before.before 1
 unfolding own_causes
-row-1 c g w e = next (row-0 c.before.before g w e) c.over.ensures c.if-over.false
+row_1 c g w e = next (row_0 c.before.before g w e) c.over.ensures c.if-over.false
 
 pub returns-then-empty : goal.returns-then-empty
 unfolding own_causes
-returns-then-empty c g w e = stop (row-1 (goal.at.returns-then-empty c).Else-over g w e) (c.empty.ensures g w e) c.if-empty.true
+returns-then-empty c g w e = stop (row_1 (goal.at.returns-then-empty c).Else-over g w e) (c.empty.ensures g w e) c.if-empty.true
 
-row-2 : (c : Else-empty) → At c.before.before.before.before 2
+row_2 : (c : Else-empty) → At c.before.before.before.before 2
 unfolding own_causes
-row-2 c g w e = next (row-1 c.before.before g w e) (c.empty.ensures g w e) c.if-empty.false
+row_2 c g w e = next (row_1 c.before.before g w e) (c.empty.ensures g w e) c.if-empty.false
 
 pub returns-then-others_held : goal.returns-then-others_held
 unfolding own_causes
 returns-then-others_held c g w e =
-    stop (row-2 (goal.at.returns-then-others_held c).Else-empty g w e) (c.others_held.ensures g w e) c.if-others_held.true
+    stop (row_2 (goal.at.returns-then-others_held c).Else-empty g w e) (c.others_held.ensures g w e) c.if-others_held.true
 
-row-3 : (c : Else-others_held) → At c.before.before.before.before.before.before 3
+row_3 : (c : Else-others_held) → At c.before.before.before.before.before.before 3
 unfolding own_causes
-row-3 c g w e = next (row-2 c.before.before g w e) (c.others_held.ensures g w e) c.if-others_held.false
+row_3 c g w e = next (row_2 c.before.before g w e) (c.others_held.ensures g w e) c.if-others_held.false
 
 pub returns-then-stack_not_empty : goal.returns-then-stack_not_empty
 unfolding own_causes
 returns-then-stack_not_empty c g w e =
-    stop (row-3 (goal.at.returns-then-stack_not_empty c).Else-others_held g w e) (c.stack_not_empty.ensures g w e) c.if-stack_not_empty.true
+    stop (row_3 (goal.at.returns-then-stack_not_empty c).Else-others_held g w e) (c.stack_not_empty.ensures g w e) c.if-stack_not_empty.true
 
-row-4 : (c : Else-stack_not_empty) → At c.before.before.before.before.before.before.before.before 4
+row_4 : (c : Else-stack_not_empty) → At c.before.before.before.before.before.before.before.before 4
 unfolding own_causes
-row-4 c g w e = next (row-3 c.before.before g w e) (c.stack_not_empty.ensures g w e) c.if-stack_not_empty.false
+row_4 c g w e = next (row_3 c.before.before g w e) (c.stack_not_empty.ensures g w e) c.if-stack_not_empty.false
 
 pub returns : goal.returns
 unfolding own_causes
-returns c g w e = through (row-4 c g w e) refl
+returns c g w e = through (row_4 c g w e) refl

@@ -14,26 +14,26 @@ abbrev At : Start → ℕ → Type 0
 At s k =
     (g : Process) (places : List ℕ) → RegistersWithin g → s.args.held ≡ registers_of g → OwnPassed g (hcase s.args.c.0 places) k
 
-row-0 : (s : Start) → At s 0
-row-0 s g places w e = first g _
+row_0 : (s : Start) → At s 0
+row_0 s g places w e = first g _
 
 pub returns-then-over : goal.returns-then-over
 unfolding own_causes
-returns-then-over c g places w e = stop (row-0 (goal.at.returns-then-over c).Start g places w e) c.over.ensures c.if-over.true
+returns-then-over c g places w e = stop (row_0 (goal.at.returns-then-over c).Start g places w e) c.over.ensures c.if-over.true
 
-row-1 : (c : Else-over) → At c.before.before 1
+row_1 : (c : Else-over) → At c.before.before 1
 unfolding own_causes
-row-1 c g places w e = next (row-0 c.before.before g places w e) c.over.ensures c.if-over.false
+row_1 c g places w e = next (row_0 c.before.before g places w e) c.over.ensures c.if-over.false
 
 pub returns-then-empty : goal.returns-then-empty
 unfolding own_causes
-returns-then-empty c g places w e = stop (row-1 (goal.at.returns-then-empty c).Else-over g places w e)
+returns-then-empty c g places w e = stop (row_1 (goal.at.returns-then-empty c).Else-over g places w e)
     (c.empty.ensures g w e) c.if-empty.true
 
-row-2 : (c : Else-empty) → At c.before.before.before.before 2
+row_2 : (c : Else-empty) → At c.before.before.before.before 2
 unfolding own_causes
-row-2 c g places w e = next (row-1 c.before.before g places w e) (c.empty.ensures g w e) c.if-empty.false
+row_2 c g places w e = next (row_1 c.before.before g places w e) (c.empty.ensures g w e) c.if-empty.false
 
 pub returns : goal.returns
 unfolding own_causes
-returns c g places w e = through (row-2 c g places w e) refl
+returns c g places w e = through (row_2 c g places w e) refl

@@ -13,33 +13,33 @@ use Rattle.causes.proofs.channels.put.Goals.{Else-empty, Else-fewer, Else-over, 
 abbrev At : Start → ℕ → Type 0
 At s k = (g : Process) → RegistersWithin g → s.args.held ≡ registers_of g → OwnPassed g (put s.args.c.0) k
 
-row-0 : (s : Start) → At s 0
-row-0 s g w e = first g _
+row_0 : (s : Start) → At s 0
+row_0 s g w e = first g _
 
 pub returns-then-fewer : goal.returns-then-fewer
 unfolding own_causes
-returns-then-fewer c g w e = stop (row-0 (goal.at.returns-then-fewer c).Start g w e) (c.fewer.ensures g w e) c.if-fewer.true
+returns-then-fewer c g w e = stop (row_0 (goal.at.returns-then-fewer c).Start g w e) (c.fewer.ensures g w e) c.if-fewer.true
 
-row-1 : (c : Else-fewer) → At c.before.before 1
+row_1 : (c : Else-fewer) → At c.before.before 1
 unfolding own_causes
-row-1 c g w e = next (row-0 c.before.before g w e) (c.fewer.ensures g w e) c.if-fewer.false
+row_1 c g w e = next (row_0 c.before.before g w e) (c.fewer.ensures g w e) c.if-fewer.false
 
 pub returns-then-over : goal.returns-then-over
 unfolding own_causes
-returns-then-over c g w e = stop (row-1 (goal.at.returns-then-over c).Else-fewer g w e) c.over.ensures c.if-over.true
+returns-then-over c g w e = stop (row_1 (goal.at.returns-then-over c).Else-fewer g w e) c.over.ensures c.if-over.true
 
-row-2 : (c : Else-over) → At c.before.before.before.before 2
+row_2 : (c : Else-over) → At c.before.before.before.before 2
 unfolding own_causes
-row-2 c g w e = next (row-1 c.before.before g w e) c.over.ensures c.if-over.false
+row_2 c g w e = next (row_1 c.before.before g w e) c.over.ensures c.if-over.false
 
 pub returns-then-empty : goal.returns-then-empty
 unfolding own_causes
-returns-then-empty c g w e = stop (row-2 (goal.at.returns-then-empty c).Else-over g w e) (c.empty.ensures g w e) c.if-empty.true
+returns-then-empty c g w e = stop (row_2 (goal.at.returns-then-empty c).Else-over g w e) (c.empty.ensures g w e) c.if-empty.true
 
-row-3 : (c : Else-empty) → At c.before.before.before.before.before.before 3
+row_3 : (c : Else-empty) → At c.before.before.before.before.before.before 3
 unfolding own_causes
-row-3 c g w e = next (row-2 c.before.before g w e) (c.empty.ensures g w e) c.if-empty.false
+row_3 c g w e = next (row_2 c.before.before g w e) (c.empty.ensures g w e) c.if-empty.false
 
 pub returns : goal.returns
 unfolding own_causes
-returns c g w e = through (row-3 c g w e) refl
+returns c g w e = through (row_3 c g w e) refl

@@ -28,44 +28,44 @@ returns-then-wrong_slots c g w e =
     stop_group g (this (goal.at.returns-then-wrong_slots c).Start) 8 (slots (goal.at.returns-then-wrong_slots c).Start g) _ refl
     (c.wrong_slots.ensures.is g w e) c.if-wrong_slots.true
 
-row-1 : (c : Else-wrong_slots) → At c.before.before 4
+row_1 : (c : Else-wrong_slots) → At c.before.before 4
 unfolding own_causes
-row-1 c g w e =
+row_1 c g w e =
     next_group g (this c.before.before) 8 (slots c.before.before g) _ refl (c.wrong_slots.ensures.is g w e) c.if-wrong_slots.false 4 refl
 
 pub returns-then-one_slot : goal.returns-then-one_slot
 unfolding own_causes
-returns-then-one_slot c g w e = stop (row-1 (goal.at.returns-then-one_slot c).Else-wrong_slots g w e) c.one_slot.ensures c.if-one_slot.true
+returns-then-one_slot c g w e = stop (row_1 (goal.at.returns-then-one_slot c).Else-wrong_slots g w e) c.one_slot.ensures c.if-one_slot.true
 
-row-2 : (c : Else-one_slot) → At c.before.before.before.before 5
+row_2 : (c : Else-one_slot) → At c.before.before.before.before 5
 unfolding own_causes
-row-2 c g w e = next (row-1 c.before.before g w e) c.one_slot.ensures c.if-one_slot.false
+row_2 c g w e = next (row_1 c.before.before g w e) c.one_slot.ensures c.if-one_slot.false
 
 pub returns-then-taken : goal.returns-then-taken
 unfolding own_causes
-returns-then-taken c g w e = stop (row-2 (goal.at.returns-then-taken c).Else-one_slot g w e) (c.taken.ensures g w e) c.if-taken.true
+returns-then-taken c g w e = stop (row_2 (goal.at.returns-then-taken c).Else-one_slot g w e) (c.taken.ensures g w e) c.if-taken.true
 
-row-3 : (c : Else-taken) → At c.before.before.before.before.before.before 6
+row_3 : (c : Else-taken) → At c.before.before.before.before.before.before 6
 unfolding own_causes
-row-3 c g w e = next (row-2 c.before.before g w e) (c.taken.ensures g w e) c.if-taken.false
+row_3 c g w e = next (row_2 c.before.before g w e) (c.taken.ensures g w e) c.if-taken.false
 
 pub returns-then-taken-2 : goal.returns-then-taken-2
 unfolding own_causes
-returns-then-taken-2 c g w e = stop (row-3 (goal.at.returns-then-taken-2 c).Else-taken g w e) (c.taken-2.ensures g w e) c.if-taken-2.true
+returns-then-taken-2 c g w e = stop (row_3 (goal.at.returns-then-taken-2 c).Else-taken g w e) (c.taken-2.ensures g w e) c.if-taken-2.true
 
-row-4 : (c : Else-taken-2) → At c.before.before.before.before.before.before.before.before 7
+row_4 : (c : Else-taken-2) → At c.before.before.before.before.before.before.before.before 7
 unfolding own_causes
-row-4 c g w e = next (row-3 c.before.before g w e) (c.taken-2.ensures g w e) c.if-taken-2.false
+row_4 c g w e = next (row_3 c.before.before g w e) (c.taken-2.ensures g w e) c.if-taken-2.false
 
 pub returns-then-stack_not_empty : goal.returns-then-stack_not_empty
 unfolding own_causes
 returns-then-stack_not_empty c g w e =
-    stop (row-4 (goal.at.returns-then-stack_not_empty c).Else-taken-2 g w e) (c.stack_not_empty.ensures g w e) c.if-stack_not_empty.true
+    stop (row_4 (goal.at.returns-then-stack_not_empty c).Else-taken-2 g w e) (c.stack_not_empty.ensures g w e) c.if-stack_not_empty.true
 
-row-5 : (c : Else-stack_not_empty) → At c.before.before.before.before.before.before.before.before.before.before 8
+row_5 : (c : Else-stack_not_empty) → At c.before.before.before.before.before.before.before.before.before.before 8
 unfolding own_causes
-row-5 c g w e = next (row-4 c.before.before g w e) (c.stack_not_empty.ensures g w e) c.if-stack_not_empty.false
+row_5 c g w e = next (row_4 c.before.before g w e) (c.stack_not_empty.ensures g w e) c.if-stack_not_empty.false
 
 pub returns : goal.returns
 unfolding own_causes
-returns c g w e = through (row-5 c g w e) refl
+returns c g w e = through (row_5 c g w e) refl

@@ -20,10 +20,10 @@ counted s =
     values_count s.args.count s.args.values (omega (arith, long, s.requires.count_le_stack_depth))
 
 -- the text of a value that was read
-value-text : (count k : ℕ) (values : List Value) → k < count → SFits w32 (get_or values k (pos 0))
+value_text : (count k : ℕ) (values : List Value) → k < count → SFits w32 (get_or values k (pos 0))
     → comma_behind k ++ signed_decimal (moved (get_or values k (pos 0)))
     ≡ comma_behind k ++ get_or (value_texts count values) k (signed_decimal (pos 0))
-value-text count k values h f =
+value_text count k values h f =
     ap (λ (t : List ℕ). comma_behind k ++ t)
     (ap signed_decimal (to_z-of_z {w = w32} {z = get_or values k (pos 0)} f) ∙ sym (value_at count k values h))
 
@@ -40,7 +40,7 @@ put_value-next-requires c =
     let below = c.loop-k-test.true in
     let fits = values_fit stack_depth a.values _ c.well_formed.1.1.0 l.k in
     let inside : l.k < length all = omega (arith, below, counted (goal.at.put_value-next-requires c).Start) in
-    room_as l.next _ _ l.out (value-text a.count l.k a.values below fits)
+    room_as l.next _ _ l.out (value_text a.count l.k a.values below fits)
     (index_room all l.k l.invariant.2 (signed_decimal (pos 0)) inside c.requires.values_in_bounds)
 
 pub loop-k-preserved : goal.loop-k-preserved
@@ -51,7 +51,7 @@ loop-k-preserved c =
     let below = c.loop-k-test.true in
     let fits = values_fit stack_depth a.values _ c.well_formed.1.1.0 l.k in
     let inside : l.k < length all = omega (arith, below, counted (goal.at.loop-k-preserved c).Start) in
-    let value = written_as (value-text a.count l.k a.values below fits) c.put_value-next.ensures in
+    let value = written_as (value_text a.count l.k a.values below fits) c.put_value-next.ensures in
     (omega (arith, below), omega arith, index_more all l.k l.invariant.2 (signed_decimal (pos 0)) inside value)
 
 pub put_dash-requires : goal.put_dash-requires

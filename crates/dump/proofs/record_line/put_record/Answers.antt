@@ -11,9 +11,9 @@ use Rattle.dump.proofs.record_line.put_record.Goals as goal
 use Rattle.dump.proofs.record_line.put_record.Goals.{After-status_of}
 
 -- what the record is
-status-is : (c : After-status_of)
+status_is : (c : After-status_of)
     → let a = c.args in c.status_of.result ≡ status_of (record_at (view a.m.now) a.r)
-status-is c =
+status_is c =
     let m = c.args.m.now in
     let s = c.requires.m_len.2 in
     c.status_of.ensures (view m) (memory_sized m s) s.laid_out
@@ -24,7 +24,7 @@ put_line-requires c =
     let m = a.m.now in
     let s = c.requires.m_len.2 in
     let loads = c.load-g.ensures in
-    let status = sym c.in-Running.is ∙ status-is (goal.at.put_line-requires c).After-status_of in
+    let status = sym c.in-Running.is ∙ status_is (goal.at.put_line-requires c).After-status_of in
     let line = running_line a.r (record_at (view m) a.r) (process_is m s a.r loads) status in
     record {
       stack_count_bound = counts_within m s a.r loads;
@@ -37,7 +37,7 @@ put_line-requires-in-Waiting c =
     let m = a.m.now in
     let s = c.requires.m_len.2 in
     let loads = c.load-g.ensures in
-    let status = sym c.in-Waiting.is ∙ status-is (goal.at.put_line-requires-in-Waiting c).After-status_of in
+    let status = sym c.in-Waiting.is ∙ status_is (goal.at.put_line-requires-in-Waiting c).After-status_of in
     let line = waiting_line a.r (record_at (view m) a.r) (process_is m s a.r loads) status in
     record {
       stack_count_bound = counts_within m s a.r loads;
@@ -48,7 +48,7 @@ pub returns-in-Free : goal.returns-in-Free
 returns-in-Free c =
     let a = c.args in
     let m = a.m.now in
-    let status = sym c.in-Free.is ∙ status-is (goal.at.returns-in-Free c).After-status_of in
+    let status = sym c.in-Free.is ∙ status_is (goal.at.returns-in-Free c).After-status_of in
     written_as (free_line a.r (record_at (view m) a.r) status) (written_none a.out.now a.at)
 
 pub returns-in-Running : goal.returns-in-Running
@@ -56,7 +56,7 @@ returns-in-Running c =
     let a = c.args in
     let m = a.m.now in
     let s = c.requires.m_len.2 in
-    let status = sym c.in-Running.is ∙ status-is (goal.at.returns-in-Running c).After-status_of in
+    let status = sym c.in-Running.is ∙ status_is (goal.at.returns-in-Running c).After-status_of in
     let process = process_is m s a.r c.load-g.ensures in
     written_as (running_line a.r (record_at (view m) a.r) process status) c.put_line.ensures
 
@@ -65,6 +65,6 @@ returns-in-Waiting c =
     let a = c.args in
     let m = a.m.now in
     let s = c.requires.m_len.2 in
-    let status = sym c.in-Waiting.is ∙ status-is (goal.at.returns-in-Waiting c).After-status_of in
+    let status = sym c.in-Waiting.is ∙ status_is (goal.at.returns-in-Waiting c).After-status_of in
     let process = process_is m s a.r c.load-g.ensures in
     written_as (waiting_line a.r (record_at (view m) a.r) process status) c.put_line-in-Waiting.ensures

@@ -22,14 +22,14 @@ word_room s =
     let g = process_in a.g in
     room_first a.at (through_word g) (slots_text g.slots) a.out.now (slots_room_lem s)
 
-environment-room : (s : Start) → let a = s.args in a.at + length (through_environment (process_in a.g)) ≤ length a.out.now
-environment-room s = let a = s.args in room_first a.at (through_environment (process_in a.g)) slots_word a.out.now (word_room s)
+environment_room : (s : Start) → let a = s.args in a.at + length (through_environment (process_in a.g)) ≤ length a.out.now
+environment_room s = let a = s.args in room_first a.at (through_environment (process_in a.g)) slots_word a.out.now (word_room s)
 
 stack_room : (s : Start) → let a = s.args in a.at + length (through_stack (process_in a.g)) ≤ length a.out.now
 stack_room s =
     let a = s.args in
     let g = process_in a.g in
-    room_first a.at (through_stack g) (environment_part (values_text g.environment)) a.out.now (environment-room s)
+    room_first a.at (through_stack g) (environment_part (values_text g.environment)) a.out.now (environment_room s)
 
 pub put_decimal-placed-requires : goal.put_decimal-placed-requires
 put_decimal-placed-requires c =
@@ -54,7 +54,7 @@ put_named_values-both-requires c =
     record {
       count_le_stack_depth = c.requires.stack_count_bound.1;
       values_in_bounds = room_rest (environment_part (values_text g.environment))
-          (environment-room (goal.at.put_named_values-both-requires c).Start) written;
+          (environment_room (goal.at.put_named_values-both-requires c).Start) written;
     }
 
 pub put_bytes-named-requires : goal.put_bytes-named-requires

@@ -25,9 +25,9 @@ returns-in-5 c = sym (cell_of_kind c.args.cell 5 c.in-5.is)
 
 pub returns-in_default : goal.returns-in_default
 returns-in_default c =
-    let not-one-to-five = c.in_default.in_default-own.rest in
-    let not-one-to-four = not-one-to-five.0 in
-    let not-one-to-three = not-one-to-four.0 in
-    let not-one-to-two = not-one-to-three.0 in
-    sym (cell_of_no_kind c.args.cell not-one-to-two.0.1 not-one-to-two.1 not-one-to-three.1 not-one-to-four.1
-    not-one-to-five.1)
+    let not_one_to_five = c.in_default.in_default-own.rest in
+    let not_one_to_four = not_one_to_five.0 in
+    let not_one_to_three = not_one_to_four.0 in
+    let not_one_to_two = not_one_to_three.0 in
+    sym (cell_of_no_kind c.args.cell not_one_to_two.0.1 not_one_to_two.1 not_one_to_three.1 not_one_to_four.1
+    not_one_to_five.1)

@@ -22,44 +22,44 @@ wrong : (image : List ℕ) {k : ℕ} → Left image k → (row_at (data_rows ima
     ≡ length_read (unless (data_rows image) (done (code_in image)))
 wrong image p e = sym (ap length_read (stopped p e))
 
-left-1 : (c : Else-image-ne1) → Left c.args.image.now 1
-left-1 c =
+left_1 : (c : Else-image-ne1) → Left c.args.image.now 1
+left_1 c =
     let image = c.args.image.now in
     passed none_passed (first_row c.args.count image c.requires.count_value c.requires.count_nonzero
     ∙ ap not (eq-eqb (get_or image 0 0) 1 c.if-image-ne1.false))
 
-left-2 : (c : Else-image-ne0) (left-1_here : Left c.args.image.now 1)
+left_2 : (c : Else-image-ne0) (left_1_here : Left c.args.image.now 1)
     → Left c.args.image.now 2
-left-2 c left-1_here =
+left_2 c left_1_here =
     let image = c.args.image.now in
     let row = second_row c.args.count image c.requires.count_value c.requires.count_nonzero in
-    passed left-1_here (row ∙ ap not (eq-eqb (get_or image 1 0) 0 c.if-image-ne0.false))
+    passed left_1_here (row ∙ ap not (eq-eqb (get_or image 1 0) 0 c.if-image-ne0.false))
 
-left-3 : (c : Else-length-eq0) (left-2_here : Left c.args.image.now 2)
+left_3 : (c : Else-length-eq0) (left_2_here : Left c.args.image.now 2)
     → Left c.args.image.now 3
-left-3 c left-2_here =
+left_3 c left_2_here =
     let row = none_row c.args.count c.args.image.now c.requires.count_value c.requires.count_nonzero c.code_length-length.ensures in
-    passed left-2_here (row ∙ ne_eqb c.code_length-length.result 0 c.if-length-eq0.false)
+    passed left_2_here (row ∙ ne_eqb c.code_length-length.result 0 c.if-length-eq0.false)
 
-left-4 : (c : Else-length-gt-CODE_LIMIT) (left-3_here : Left c.args.image.now 3)
+left_4 : (c : Else-length-gt-CODE_LIMIT) (left_3_here : Left c.args.image.now 3)
     → Left c.args.image.now 4
-left-4 c left-3_here =
+left_4 c left_3_here =
     let L = c.code_length-length in
     let row = many_row c.args.count c.args.image.now c.requires.count_value c.requires.count_nonzero L.ensures in
-    passed left-3_here (row ∙ le-ltb code_limit L.result c.if-length-gt-CODE_LIMIT.false)
+    passed left_3_here (row ∙ le-ltb code_limit L.result c.if-length-gt-CODE_LIMIT.false)
 
 counted : (c : Else-block_count-count)
     → block_count c.code_length-length.result
     ≡ c.args.count
 counted c = sym c.block_count.ensures ∙ c.if-block_count-count.false
 
-left-5 : (c : Else-block_count-count)
-    (left-4_here : Left c.args.image.now 4)
+left_5 : (c : Else-block_count-count)
+    (left_4_here : Left c.args.image.now 4)
     → Left c.args.image.now 5
-left-5 c left-4_here =
+left_5 c left_4_here =
     let L = c.code_length-length in
     let row = count_row c.args.count c.args.image.now c.requires.count_value c.requires.count_nonzero L.ensures in
-    passed left-4_here (row ∙ ap not (eq-eqb (block_count L.result) c.args.count (counted c)))
+    passed left_4_here (row ∙ ap not (eq-eqb (block_count L.result) c.args.count (counted c)))
 
 pub returns-then-image-ne1 : goal.returns-then-image-ne1
 unfolding read_causes
@@ -73,24 +73,24 @@ unfolding read_causes
 returns-then-image-ne0 c =
     let image = c.args.image.now in
     let row = second_row c.args.count image c.requires.count_value c.requires.count_nonzero in
-    wrong c.args.image.now (left-1 (goal.at.returns-then-image-ne0 c).Else-image-ne1) (row
+    wrong c.args.image.now (left_1 (goal.at.returns-then-image-ne0 c).Else-image-ne1) (row
     ∙ ap not (ne_eqb (get_or image 1 0) 0 c.if-image-ne0.true))
 
 pub returns-then-length-eq0 : goal.returns-then-length-eq0
 unfolding read_causes
 returns-then-length-eq0 c =
     let row = none_row c.args.count c.args.image.now c.requires.count_value c.requires.count_nonzero c.code_length-length.ensures in
-    wrong c.args.image.now (left-2 (goal.at.returns-then-length-eq0 c).Else-image-ne0
-    (left-1 (goal.at.returns-then-length-eq0 c).Else-image-ne1)) (row ∙ eq-eqb c.code_length-length.result 0 c.if-length-eq0.true)
+    wrong c.args.image.now (left_2 (goal.at.returns-then-length-eq0 c).Else-image-ne0
+    (left_1 (goal.at.returns-then-length-eq0 c).Else-image-ne1)) (row ∙ eq-eqb c.code_length-length.result 0 c.if-length-eq0.true)
 
 pub returns-then-length-gt-CODE_LIMIT : goal.returns-then-length-gt-CODE_LIMIT
 unfolding read_causes
 returns-then-length-gt-CODE_LIMIT c =
     let L = c.code_length-length in
     let row = many_row c.args.count c.args.image.now c.requires.count_value c.requires.count_nonzero L.ensures in
-    wrong c.args.image.now (left-3 (goal.at.returns-then-length-gt-CODE_LIMIT c).Else-length-eq0
-    (left-2 (goal.at.returns-then-length-gt-CODE_LIMIT c).Else-image-ne0
-    (left-1 (goal.at.returns-then-length-gt-CODE_LIMIT c).Else-image-ne1))) (row
+    wrong c.args.image.now (left_3 (goal.at.returns-then-length-gt-CODE_LIMIT c).Else-length-eq0
+    (left_2 (goal.at.returns-then-length-gt-CODE_LIMIT c).Else-image-ne0
+    (left_1 (goal.at.returns-then-length-gt-CODE_LIMIT c).Else-image-ne1))) (row
     ∙ lt-ltb code_limit L.result c.if-length-gt-CODE_LIMIT.true)
 
 pub returns-then-block_count-count : goal.returns-then-block_count-count
@@ -99,9 +99,9 @@ returns-then-block_count-count c =
     let L = c.code_length-length in
     let row = count_row c.args.count c.args.image.now c.requires.count_value c.requires.count_nonzero L.ensures in
     let other : (block_count L.result ≡ c.args.count → ⊥) = λ e. c.if-block_count-count.true (c.block_count.ensures ∙ e) in
-    wrong c.args.image.now (left-4 (goal.at.returns-then-block_count-count c).Else-length-gt-CODE_LIMIT
-    (left-3 (goal.at.returns-then-block_count-count c).Else-length-eq0 (left-2 (goal.at.returns-then-block_count-count c).Else-image-ne0
-    (left-1 (goal.at.returns-then-block_count-count c).Else-image-ne1)))) (row ∙ ap not (ne_eqb (block_count L.result) c.args.count other))
+    wrong c.args.image.now (left_4 (goal.at.returns-then-block_count-count c).Else-length-gt-CODE_LIMIT
+    (left_3 (goal.at.returns-then-block_count-count c).Else-length-eq0 (left_2 (goal.at.returns-then-block_count-count c).Else-image-ne0
+    (left_1 (goal.at.returns-then-block_count-count c).Else-image-ne1)))) (row ∙ ap not (ne_eqb (block_count L.result) c.args.count other))
 
 -- the code ends before the last check
 ends : (c : Else-block_count-count)
@@ -134,9 +134,9 @@ padding c counted_here =
 pub returns-then-any_nonzero : goal.returns-then-any_nonzero
 unfolding read_causes
 returns-then-any_nonzero c =
-    wrong c.args.image.now (left-5 (goal.at.returns-then-any_nonzero c).Else-block_count-count
-    (left-4 (goal.at.returns-then-any_nonzero c).Else-length-gt-CODE_LIMIT (left-3 (goal.at.returns-then-any_nonzero c).Else-length-eq0
-    (left-2 (goal.at.returns-then-any_nonzero c).Else-image-ne0 (left-1 (goal.at.returns-then-any_nonzero c).Else-image-ne1)))))
+    wrong c.args.image.now (left_5 (goal.at.returns-then-any_nonzero c).Else-block_count-count
+    (left_4 (goal.at.returns-then-any_nonzero c).Else-length-gt-CODE_LIMIT (left_3 (goal.at.returns-then-any_nonzero c).Else-length-eq0
+    (left_2 (goal.at.returns-then-any_nonzero c).Else-image-ne0 (left_1 (goal.at.returns-then-any_nonzero c).Else-image-ne1)))))
     (padding (goal.at.returns-then-any_nonzero c).After-any_nonzero (counted (goal.at.returns-then-any_nonzero c).Else-block_count-count)
     ∙ c.if-any_nonzero.true)
 
@@ -144,8 +144,8 @@ pub returns : goal.returns
 returns c =
     let image = c.args.image.now in
     let L = c.code_length-length in
-    let all = passed (left-5 (goal.at.returns c).Else-block_count-count (left-4 (goal.at.returns c).Else-length-gt-CODE_LIMIT
-    (left-3 (goal.at.returns c).Else-length-eq0 (left-2 (goal.at.returns c).Else-image-ne0 (left-1 (goal.at.returns c).Else-image-ne1)))))
+    let all = passed (left_5 (goal.at.returns c).Else-block_count-count (left_4 (goal.at.returns c).Else-length-gt-CODE_LIMIT
+    (left_3 (goal.at.returns c).Else-length-eq0 (left_2 (goal.at.returns c).Else-image-ne0 (left_1 (goal.at.returns c).Else-image-ne1)))))
     (padding (goal.at.returns c).After-any_nonzero (counted (goal.at.returns c).Else-block_count-count) ∙ c.if-any_nonzero.false) in
     let size = found_size c.args.count image c.requires.count_value c.requires.count_nonzero L.ensures
     (counted (goal.at.returns c).Else-block_count-count) in

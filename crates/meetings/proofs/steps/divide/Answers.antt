@@ -66,8 +66,8 @@ branch-y-requires c = (ends_within (goal.at.branch-y-requires c).Start).1
 pub free_and_run-requires : goal.free_and_run-requires
 free_and_run-requires c =
     let p = c.requires.sound_memory in
-    let r-in = (waits_there _ p.0 _ _ c.requires.no_data.1.wait_heads).in_list in
-    (memory_length _ p.0, p.2, p.3, r-in, omega (arith, c.if-new.false))
+    let r_in = (waits_there _ p.0 _ _ c.requires.no_data.1.wait_heads).in_list in
+    (memory_length _ p.0, p.2, p.3, r_in, omega (arith, c.if-new.false))
 
 pub returns : goal.returns
 returns c =

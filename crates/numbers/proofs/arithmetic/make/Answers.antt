@@ -23,7 +23,7 @@ pub returns : goal.returns
 returns c g is =
     let m = c.args.m.now in
     let x = held_is m c.requires.0 _ g is c.load-held.ensures in
-    let of-value : SFits w64 c.value_of.result = search rules in
-    let value = to_z-of_z {w = w64} of-value ∙ c.value_of.ensures g x in
+    let of_value : SFits w64 c.value_of.result = search rules in
+    let value = to_z-of_z {w = w64} of_value ∙ c.value_of.ensures g x in
     let answer = made_checked (view m) _ _ g c.args.made (enough g x 2 c.if-held-lt2.false) in
     checked_step m c.requires.0 _ _ g is x value answer c.combine_checked.ensures

@@ -15,18 +15,18 @@ whole : (c : Start)
 whole c = let a = c.args in room_as a.at _ _ a.out.now (last_text_lem a.verdict a.made a.next) c.requires
 
 -- behind the verdict, and behind the steps
-room-1 : (c : After-put_verdict-space)
+room_1 : (c : After-put_verdict-space)
     → let a = c.args in
     c.put_verdict-space.result + length ((32 ∷ []) ++ from_steps a.made a.next) ≤ length c.put_verdict-space.new.out
-room-1 c =
+room_1 c =
     let a = c.args in
     room_rest ((32 ∷ []) ++ from_steps a.made a.next) (whole c.before.before.before) c.put_verdict-space.ensures
 
-room-2 : (c : After-put_lettered-behind)
+room_2 : (c : After-put_lettered-behind)
     → let a = c.args in
     c.put_lettered-behind.result + length ((32 ∷ []) ++ from_next a.next) ≤ length c.put_lettered-behind.new.out
-room-2 c =
-    room_rest ((32 ∷ []) ++ from_next c.args.next) (room-1 c.before.before.before.before) c.put_lettered-behind.ensures
+room_2 c =
+    room_rest ((32 ∷ []) ++ from_next c.args.next) (room_1 c.before.before.before.before) c.put_lettered-behind.ensures
 
 pub put_verdict-space-requires : goal.put_verdict-space-requires
 put_verdict-space-requires c =
@@ -39,17 +39,17 @@ put_lettered-behind-requires c =
     let a = c.args in
     let d = c.put_verdict-space in
     room_first d.result (32 ∷ decimal a.made) ((32 ∷ []) ++ from_next a.next) d.new.out
-    (room-1 (goal.at.put_lettered-behind-requires c).After-put_verdict-space)
+    (room_1 (goal.at.put_lettered-behind-requires c).After-put_verdict-space)
 
 pub put_lettered-end-requires : goal.put_lettered-end-requires
 put_lettered-end-requires c =
     let a = c.args in
     let d = c.put_lettered-behind in
-    room_first d.result (32 ∷ decimal a.next) (10 ∷ []) d.new.out (room-2 (goal.at.put_lettered-end-requires c).After-put_lettered-behind)
+    room_first d.result (32 ∷ decimal a.next) (10 ∷ []) d.new.out (room_2 (goal.at.put_lettered-end-requires c).After-put_lettered-behind)
 
 pub put_letter-requires : goal.put_letter-requires
 put_letter-requires c =
-    room_rest (10 ∷ []) (room-2 (goal.at.put_letter-requires c).After-put_lettered-behind) c.put_lettered-end.ensures
+    room_rest (10 ∷ []) (room_2 (goal.at.put_letter-requires c).After-put_lettered-behind) c.put_lettered-end.ensures
 
 pub returns : goal.returns
 returns c =

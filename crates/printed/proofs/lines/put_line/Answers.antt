@@ -16,33 +16,33 @@ whole : (c : Start)
 whole c = room_as c.args.at _ _ c.args.out.now (line_text_lem c.args.number (printed_of c.args.x)) c.requires
 
 -- behind the number, the space, who was asked, the second space, and what was done
-room-1 : (c : After-put_decimal-space)
+room_1 : (c : After-put_decimal-space)
     → c.put_decimal-space.result + length ((32 ∷ []) ++ from_position (printed_of c.args.x))
     ≤ length c.put_decimal-space.new.out
-room-1 c =
+room_1 c =
     room_rest ((32 ∷ []) ++ from_position (printed_of c.args.x)) (whole c.before.before.before) c.put_decimal-space.ensures
 
-room-2 : (c : After-put_letter-asked)
+room_2 : (c : After-put_letter-asked)
     → c.put_letter-asked.result + length (from_position (printed_of c.args.x))
     ≤ length c.put_letter-asked.new.out
-room-2 c =
-    room_rest (from_position (printed_of c.args.x)) (room-1 c.before.before.before.before) c.put_letter-asked.ensures
+room_2 c =
+    room_rest (from_position (printed_of c.args.x)) (room_1 c.before.before.before.before) c.put_letter-asked.ensures
 
-room-3 : (c : After-put_position-behind)
+room_3 : (c : After-put_position-behind)
     → c.put_position-behind.result + length ((32 ∷ []) ++ from_kind (printed_of c.args.x)) ≤ length c.put_position-behind.new.out
-room-3 c =
-    room_rest ((32 ∷ []) ++ from_kind (printed_of c.args.x)) (room-2 c.before.before.before.before) c.put_position-behind.ensures
+room_3 c =
+    room_rest ((32 ∷ []) ++ from_kind (printed_of c.args.x)) (room_2 c.before.before.before.before) c.put_position-behind.ensures
 
-room-4 : (c : After-put_letter-made)
+room_4 : (c : After-put_letter-made)
     → c.put_letter-made.result + length (from_kind (printed_of c.args.x)) ≤ length c.put_letter-made.new.out
-room-4 c =
-    room_rest (from_kind (printed_of c.args.x)) (room-3 c.before.before.before.before) c.put_letter-made.ensures
+room_4 c =
+    room_rest (from_kind (printed_of c.args.x)) (room_3 c.before.before.before.before) c.put_letter-made.ensures
 
-kind-written : (c : After-put_kind-end)
+kind_written : (c : After-put_kind-end)
     → let x = printed_of c.args.x in
     Written c.put_letter-made.new.out c.put_letter-made.result (kind_text x.kind x.number) c.put_kind-end.new.out
     c.put_kind-end.result
-kind-written c =
+kind_written c =
     let x = printed_of c.args.x in
     -- the number has 32 bits, so what is printed is the number that was given
     let number_fits : SFits w32 c.args.x.number = search rules in
@@ -59,20 +59,20 @@ put_letter-asked-requires c =
     let x = c.args.x in
     let d = c.put_decimal-space in
     room_first d.result (32 ∷ []) (from_position (printed_of x)) d.new.out
-    (room-1 (goal.at.put_letter-asked-requires c).After-put_decimal-space)
+    (room_1 (goal.at.put_letter-asked-requires c).After-put_decimal-space)
 
 pub put_position-behind-requires : goal.put_position-behind-requires
 put_position-behind-requires c =
     let x = printed_of c.args.x in
     let d = c.put_letter-asked in
     room_first d.result (position_text x.position) ((32 ∷ []) ++ from_kind x) d.new.out
-    (room-2 (goal.at.put_position-behind-requires c).After-put_letter-asked)
+    (room_2 (goal.at.put_position-behind-requires c).After-put_letter-asked)
 
 pub put_letter-made-requires : goal.put_letter-made-requires
 put_letter-made-requires c =
     let d = c.put_position-behind in
     room_first d.result (32 ∷ []) (from_kind (printed_of c.args.x)) d.new.out
-    (room-3 (goal.at.put_letter-made-requires c).After-put_position-behind)
+    (room_3 (goal.at.put_letter-made-requires c).After-put_position-behind)
 
 pub put_kind-end-requires : goal.put_kind-end-requires
 put_kind-end-requires c =
@@ -80,12 +80,12 @@ put_kind-end-requires c =
     let d = c.put_letter-made in
     let number_fits : SFits w32 c.args.x.number = search rules in
     rw (to_z-of_z {w = w32} {z = x.number} number_fits)
-    (room_first d.result (kind_text x.kind x.number) (10 ∷ []) d.new.out (room-4 (goal.at.put_kind-end-requires c).After-put_letter-made))
+    (room_first d.result (kind_text x.kind x.number) (10 ∷ []) d.new.out (room_4 (goal.at.put_kind-end-requires c).After-put_letter-made))
 
 pub put_letter-requires : goal.put_letter-requires
 put_letter-requires c =
-    room_rest (10 ∷ []) (room-4 (goal.at.put_letter-requires c).After-put_letter-made)
-    (kind-written (goal.at.put_letter-requires c).After-put_kind-end)
+    room_rest (10 ∷ []) (room_4 (goal.at.put_letter-requires c).After-put_letter-made)
+    (kind_written (goal.at.put_letter-requires c).After-put_kind-end)
 
 pub returns : goal.returns
 returns c =
@@ -95,4 +95,4 @@ returns c =
     (written_more c.put_letter-asked.ensures
     (written_more c.put_position-behind.ensures
     (written_more c.put_letter-made.ensures
-    (written_more (kind-written (goal.at.returns c).After-put_kind-end) c.put_letter.ensures)))))
+    (written_more (kind_written (goal.at.returns c).After-put_kind-end) c.put_letter.ensures)))))

@@ -56,9 +56,9 @@ shared c g is =
     let m = a.m.now in
     let s = c.requires.sound_memory.0 in
     let x = first c.before.before g is in
-    let used-x = (first_end (view m) s.state_sound a.r.0 g is a.c.0 a.d.0 (passes (passed c.before.before.before) g is)).in_use in
+    let used_x = (first_end (view m) s.state_sound a.r.0 g is a.c.0 a.d.0 (passes (passed c.before.before.before) g is)).in_use in
     c.refusal.ensures (view m) g (memory_sized m s) s.laid_out x (second c.before g is)
-    (ap (λ (e : ℕ). is_free_end (end_at (view m) e)) x ∙ used-x)
+    (ap (λ (e : ℕ). is_free_end (end_at (view m) e)) x ∙ used_x)
 
 pub returns-in-Refused-refusal : goal.returns-in-Refused-refusal
 returns-in-Refused-refusal c next g is =

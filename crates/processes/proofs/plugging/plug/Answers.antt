@@ -61,8 +61,8 @@ two c =
     enough_ends _ (memory_sized _ s) _ (word_read c.before.before) c.count.ensures 2 c.if-count-lt2.false
 
 -- the record that is found is the lowest free one
-new-read : (c : After-lowest_free_record-new) → c.lowest_free_record-new.result.0 ≡ lowest_free_record (view c.args.m.now)
-new-read c =
+new_read : (c : After-lowest_free_record-new) → c.lowest_free_record-new.result.0 ≡ lowest_free_record (view c.args.m.now)
+new_read c =
     let s = c.requires.0 in
     c.lowest_free_record-new.ensures _ (memory_sized _ s) s.laid_out
 
@@ -71,13 +71,13 @@ returns-then-new c next g is =
     let a = c.args in
     let st = view a.m.now in
     let none = no_record st c.requires.0.state_sound
-    (omega (arith, c.if-new.true, new-read (goal.at.returns-then-new c).After-lowest_free_record-new)) in
+    (omega (arith, c.if-new.true, new_read (goal.at.returns-then-new c).After-lowest_free_record-new)) in
     refused_step 15 (no_free_record_lem st a.r.0 next g _ _ _ _ _ (passes (passed (goal.at.returns-then-new c).In_default) g is)
     (two (goal.at.returns-then-new c).Else-count-lt2) none)
 
 -- a record is free
 some : (c : Else-new) → no_free_record (view c.args.m.now) ≡ false
-some c = some_record _ (omega (arith, c.if-new.false, new-read c.before.before))
+some c = some_record _ (omega (arith, c.if-new.false, new_read c.before.before))
 
 pub divide-requires : goal.divide-requires
 divide-requires c =
@@ -90,7 +90,7 @@ divide-requires c =
           word_is = word_read (goal.at.divide-requires c).After-free_word-word;
           two_ends = two
               (goal.at.divide-requires c).Else-count-lt2;
-          new_is = new-read (goal.at.divide-requires c).After-lowest_free_record-new;
+          new_is = new_read (goal.at.divide-requires c).After-lowest_free_record-new;
           a_record = some (goal.at.divide-requires c).Else-new;
         },
       );

@@ -23,10 +23,10 @@ returns-then-empty-gt0 c =
     }
 
 -- what the partner's number stands for, and that it is one of the ends
-partner-here : (c : After-partner)
+partner_here : (c : After-partner)
     → let a = c.args in
     (c.partner.result.0 ≡ end_or 0 (partner_of (end_at (view a.m.now) a.end.0))) × (c.partner.result.0 < end_count)
-partner-here c =
+partner_here c =
     let a = c.args in
     let m = a.m.now in
     let s = c.requires.2 in
@@ -48,7 +48,7 @@ returns-then-queued-eq0 c =
     let h = c.requires.1 in
     let empty = sym (c.queued.ensures.queued (view m) (memory_sized m s) s.laid_out) ∙ c.if-queued-eq0.true in
     let no_step = nothing_meets (view m) e h s.state_sound c.partner.result.0
-    (partner-here (goal.at.returns-then-queued-eq0 c).After-partner).0 empty in
+    (partner_here (goal.at.returns-then-queued-eq0 c).After-partner).0 empty in
     record {
       within = omega (arith, h);
       passed = λ i l. only (view m) e i l no_step;

@@ -11,12 +11,12 @@ use Rattle.runner.proofs.searching.step_from.Goals as goal
 use Rattle.runner.proofs.searching.step_from.Goals.{In-Nowhere}
 
 -- no step was made above: the memory is as it was
-nowhere-above : (c : In-Nowhere)
+nowhere_above : (c : In-Nowhere)
     → let a = c.args in
     Promise (stepped_by (first_of (position_count - a.position) (view a.m.now) a.position))
     (memory_by a.m.now (first_of (position_count - a.position) (view a.m.now) a.position)) Nowhere
     c.step_between.new.m
-nowhere-above c =
+nowhere_above c =
     let made = c.step_between.ensures in
     record { answer_is = sym c.in-Nowhere.is ∙ made.answer_is; memory_is = made.memory_is }
 
@@ -30,5 +30,5 @@ returns-in-At c =
 pub returns-in-Nowhere : goal.returns-in-Nowhere
 returns-in-Nowhere c =
     let a = c.args in
-    made_below a.m.now a.position c.requires.m_len.1 (nowhere-above (goal.at.returns-in-Nowhere c).In-Nowhere)
+    made_below a.m.now a.position c.requires.m_len.1 (nowhere_above (goal.at.returns-in-Nowhere c).In-Nowhere)
     c.step_between-in-Nowhere.ensures
