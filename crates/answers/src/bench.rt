@@ -17,7 +17,7 @@ const SPACE: u8 = 32;
 // `dump`: the state in words, 1 where the memory is not sound.
 pub fn dump(state: &[u8], out: &mut [u8]) -> usize
     requires state_len { length state.now ≡ state_size }
-    requires state_in_bounds { length (dump_answered state.now) ≤ length out.old }
+    requires room { length (dump_answered state.now) ≤ length out.old }
     ensures { Written out.old 0 (dump_answered state.now) out.new result }
 {
     if !soundness::is_sound(state) {
@@ -29,7 +29,7 @@ pub fn dump(state: &[u8], out: &mut [u8]) -> usize
 // `peek AT COUNT`: bytes of the memory in hex.
 pub fn peek(at: u32, count: u32, state: &[u8], out: &mut [u8]) -> usize
     requires state_len { length state.now ≡ state_size }
-    requires count_in_bounds { length (peek_answered state.now at count) ≤ length out.old }
+    requires room { length (peek_answered state.now at count) ≤ length out.old }
     ensures { Written out.old 0 (peek_answered state.now at count) out.new result }
 {
     let from = at as usize;
@@ -43,7 +43,7 @@ pub fn peek(at: u32, count: u32, state: &[u8], out: &mut [u8]) -> usize
 // `poke AT HEX`: bytes go into the memory.
 pub fn poke(at: u32, bytes: &[u8], state: &mut [u8], out: &mut [u8]) -> usize
     requires state_len { (length state.old ≡ state_size) × (length bytes.now ≤ byte_size) }
-    requires bytes_in_bounds { length (poke_answered state.old at bytes.now) ≤ length out.old }
+    requires room { length (poke_answered state.old at bytes.now) ≤ length out.old }
     ensures says { Written out.old 0 (poke_answered state.old at bytes.now) out.new result }
     ensures leaves { state.new ≡ poked state.old at bytes.now }
 {

@@ -91,8 +91,8 @@ fn run_at(code: &[u8], place: usize, listed: usize) -> Decoded
 
 // The instruction that begins with this first byte, and whose fixed part ends before `next`.
 pub fn decode_fixed(code: &[u8], place: usize, first: u8, next: usize) -> Decoded
-    requires first_value { first ≡ byte_at code.now place 0 }
-    requires next_value { (next ≡ place + size_of (form_of first)) × (next ≤ length code.now) }
+    requires first_byte { first ≡ byte_at code.now place 0 }
+    requires next_place { (next ≡ place + size_of (form_of first)) × (next ≤ length code.now) }
     ensures { meaning code.now place result ≡ decoded_by_rules code.now place }
 {
     match first {

@@ -51,8 +51,8 @@ fn put_item(out: &mut [u8], at: usize, item: Item) -> usize
 
 // Item k of an end's queue, behind k others.
 fn put_next(out: &mut [u8], at: usize, m: &[u8], e: u8, k: usize) -> usize
-    requires m_len { (length m.now ≡ state_size) × (e < end_count) × SoundMemory m.now }
-    requires k_in_bounds { k < length (item_texts (end_at (view m.now) e)) }
+    requires sound { (length m.now ≡ state_size) × (e < end_count) × SoundMemory m.now }
+    requires in_queue { k < length (item_texts (end_at (view m.now) e)) }
     requires room { at + length (comma_behind k ++ get_or (item_texts (end_at (view m.now) e)) k []) ≤ length out.old }
     ensures { Written out.old at (comma_behind k ++ get_or (item_texts (end_at (view m.now) e)) k [])
         out.new result }
@@ -66,8 +66,8 @@ fn put_next(out: &mut [u8], at: usize, m: &[u8], e: u8, k: usize) -> usize
 
 // The items of an end's queue.
 fn put_queue(out: &mut [u8], at: usize, m: &[u8], e: u8) -> usize
-    requires m_len { (length m.now ≡ state_size) × (e < end_count) × SoundMemory m.now }
-    requires e_in_bounds { at + length (list_text (item_texts (end_at (view m.now) e))) ≤ length out.old }
+    requires sound { (length m.now ≡ state_size) × (e < end_count) × SoundMemory m.now }
+    requires room { at + length (list_text (item_texts (end_at (view m.now) e))) ≤ length out.old }
     ensures { Written out.old at (list_text (item_texts (end_at (view m.now) e))) out.new result }
 {
     let count = ends::queued(m, End(e)) as usize;
@@ -94,8 +94,8 @@ fn put_head(out: &mut [u8], at: usize, e: u8, partner: End) -> usize
 
 // The line of end e; a free one has none.
 pub fn put_end(out: &mut [u8], at: usize, m: &[u8], e: u8) -> usize
-    requires m_len { (length m.now ≡ state_size) × (e < end_count) × SoundMemory m.now }
-    requires e_in_bounds { at + length (end_text e (end_at (view m.now) e)) ≤ length out.old }
+    requires sound { (length m.now ≡ state_size) × (e < end_count) × SoundMemory m.now }
+    requires room { at + length (end_text e (end_at (view m.now) e)) ≤ length out.old }
     ensures { Written out.old at (end_text e (end_at (view m.now) e)) out.new result }
 {
     if ends::is_free(m, End(e)) {

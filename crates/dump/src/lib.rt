@@ -31,8 +31,8 @@ fn put_bytes_of(out: &mut [u8], at: usize, code: &[u8]) -> usize
 
 // The line of the code.
 fn put_code(out: &mut [u8], at: usize, m: &[u8]) -> usize
-    requires m_len { (length m.now ≡ state_size) × SoundMemory m.now }
-    requires text_of_in_bounds { at + length (text_of "code " ++ code_text (view m.now).code ++ text_of "\n") ≤ length out.old }
+    requires sound { (length m.now ≡ state_size) × SoundMemory m.now }
+    requires room { at + length (text_of "code " ++ code_text (view m.now).code ++ text_of "\n") ≤ length out.old }
     ensures { Written out.old at (text_of "code " ++ code_text (view m.now).code ++ text_of "\n")
         out.new result }
 {
@@ -43,8 +43,8 @@ fn put_code(out: &mut [u8], at: usize, m: &[u8]) -> usize
 
 // The lines of the records.
 fn put_records(out: &mut [u8], at: usize, m: &[u8]) -> usize
-    requires m_len { (length m.now ≡ state_size) × SoundMemory m.now }
-    requires m_in_bounds { at + length (records_text (view m.now).records) ≤ length out.old }
+    requires sound { (length m.now ≡ state_size) × SoundMemory m.now }
+    requires room { at + length (records_text (view m.now).records) ≤ length out.old }
     ensures { Written out.old at (records_text (view m.now).records) out.new result }
 {
     let mut next = at;
@@ -58,8 +58,8 @@ fn put_records(out: &mut [u8], at: usize, m: &[u8]) -> usize
 
 // The lines of the ends.
 fn put_ends(out: &mut [u8], at: usize, m: &[u8]) -> usize
-    requires m_len { (length m.now ≡ state_size) × SoundMemory m.now }
-    requires m_in_bounds { at + length (ends_text (view m.now).ends) ≤ length out.old }
+    requires sound { (length m.now ≡ state_size) × SoundMemory m.now }
+    requires room { at + length (ends_text (view m.now).ends) ≤ length out.old }
     ensures { Written out.old at (ends_text (view m.now).ends) out.new result }
 {
     let mut next = at;
@@ -74,7 +74,7 @@ fn put_ends(out: &mut [u8], at: usize, m: &[u8]) -> usize
 // The state in words.
 pub fn put_state(out: &mut [u8], at: usize, m: &[u8]) -> usize
     requires sound_memory { SoundMemory m.now }
-    requires m_in_bounds { at + length (state_text (view m.now)) ≤ length out.old }
+    requires room { at + length (state_text (view m.now)) ≤ length out.old }
     ensures { Written out.old at (state_text (view m.now)) out.new result }
 {
     let behind_code = put_code(out, at, m);

@@ -53,7 +53,7 @@ fn put_value(out: &mut [u8], at: usize, shown: usize, v: i32) -> usize
 // The first `count` values.
 pub fn put_values(out: &mut [u8], at: usize, values: [i32; STACK_DEPTH], count: u8) -> usize
     requires count_le_stack_depth { count ≤ stack_depth }
-    requires values_in_bounds { at + length (values_text (take count values)) ≤ length out.old }
+    requires room { at + length (values_text (take count values)) ≤ length out.old }
     ensures { Written out.old at (values_text (take count values)) out.new result }
 {
     let mut next = at;

@@ -23,7 +23,7 @@ fn put_named_values(
     count: u8,
 ) -> usize
     requires count_le_stack_depth { count ≤ stack_depth }
-    requires values_in_bounds { at + length (word.now ++ values_text (take count values)) ≤ length out.old }
+    requires room { at + length (word.now ++ values_text (take count values)) ≤ length out.old }
     ensures { Written out.old at (word.now ++ values_text (take count values)) out.new result }
 {
     let behind = put_bytes(out, at, word);
@@ -33,7 +33,7 @@ fn put_named_values(
 // What a process has, and the line's end.
 fn put_registers(out: &mut [u8], at: usize, g: Registers) -> usize
     requires stack_count_bound { (g.stack_count ≤ stack_depth) × (g.environment_count ≤ environment_depth) }
-    requires g_in_bounds { at + length (registers_text (process_in g)) ≤ length out.old }
+    requires room { at + length (registers_text (process_in g)) ≤ length out.old }
     ensures { Written out.old at (registers_text (process_in g)) out.new result }
 {
     let stack = g.stack;
@@ -50,7 +50,7 @@ fn put_registers(out: &mut [u8], at: usize, g: Registers) -> usize
 // The record's number, what it does, and what it has.
 fn put_line(out: &mut [u8], at: usize, r: u8, status: &[u8], g: Registers) -> usize
     requires stack_count_bound { (g.stack_count ≤ stack_depth) × (g.environment_count ≤ environment_depth) }
-    requires g_in_bounds { at + length (text_of "R" ++ decimal r ++ status.now ++ registers_text (process_in g)) ≤ length out.old }
+    requires room { at + length (text_of "R" ++ decimal r ++ status.now ++ registers_text (process_in g)) ≤ length out.old }
     ensures { Written out.old at (text_of "R" ++ decimal r ++ status.now ++ registers_text (process_in g))
         out.new result }
 {
@@ -61,8 +61,8 @@ fn put_line(out: &mut [u8], at: usize, r: u8, status: &[u8], g: Registers) -> us
 
 // The line of record r; a free one has none.
 pub fn put_record(out: &mut [u8], at: usize, m: &[u8], r: u8) -> usize
-    requires m_len { (length m.now ≡ state_size) × (r < record_count) × SoundMemory m.now }
-    requires r_in_bounds { at + length (record_text r (record_at (view m.now) r)) ≤ length out.old }
+    requires sound { (length m.now ≡ state_size) × (r < record_count) × SoundMemory m.now }
+    requires room { at + length (record_text r (record_at (view m.now) r)) ≤ length out.old }
     ensures { Written out.old at (record_text r (record_at (view m.now) r)) out.new result }
 {
     let g = registers::load(m, Record(r));

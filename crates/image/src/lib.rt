@@ -84,8 +84,8 @@ fn least(a: usize, b: usize) -> usize
 // The code of an image that reads goes into `out` from `at` on. It stands in runs, one for each block: data byte p of block i stands at
 // p + 2 i, behind the checks of the blocks before.
 pub fn copy_code(image: &[u8], out: &mut [u8], at: usize)
-    requires image_value { read_image image.now ≡ done (code_in image.now) }
-    requires image_in_bounds { at + code_length image.now ≤ length out.old }
+    requires image_reads { read_image image.now ≡ done (code_in image.now) }
+    requires room { at + code_length image.now ≤ length out.old }
     ensures { out.new ≡ put_at out.old at (code_in image.now) }
 {
     let count = image.len() / BLOCK_SIZE;

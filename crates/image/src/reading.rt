@@ -49,7 +49,7 @@ pub fn code_length(image: &[u8]) -> usize
 
 // 22 and 23 of an image of `count` whole blocks.
 pub fn read_data(image: &[u8], count: usize) -> Found
-    requires count_value { block_size * count ≡ length image.now }
+    requires whole_blocks { block_size * count ≡ length image.now }
     requires count_nonzero { 0 < count }
     ensures { found_answer result
         ≡ length_read (unless (drop 4 (read_causes image.now)) (done (code_in image.now))) }

@@ -59,7 +59,7 @@ fn write_block(code: &[u8], from: usize, out: &mut [u8])
 pub fn write_blocks(code: &[u8], out: &mut [u8], count: usize)
     requires code_len_bound { length code.now ≤ code_limit }
     requires count_le_block_limit { count ≤ block_limit }
-    requires count_in_bounds { block_size * count ≤ length out.old }
+    requires room { block_size * count ≤ length out.old }
     ensures { out.new
         ≡ blocks count (pad (data_size * count) 0 (headed code.now)) ++ drop (block_size * count) out.old }
 {

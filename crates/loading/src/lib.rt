@@ -19,8 +19,8 @@ use rules::{Reply, STATE_LENGTH};
 
 // The start state with the code of an image that reads.
 fn install(state: &mut [u8], image: &[u8], length: usize)
-    requires state_value { (length_of state.old ≡ state_size) × (read_image image.now ≡ done (code_in image.now)) }
-    requires length_len { (length ≡ code_length image.now) × (length ≤ code_limit) }
+    requires image_reads { (length_of state.old ≡ state_size) × (read_image image.now ≡ done (code_in image.now)) }
+    requires length_right { (length ≡ code_length image.now) × (length ≤ code_limit) }
     ensures { state.new ≡ layout (start (code_in image.now)) }
 {
     memory::start(state);

@@ -27,7 +27,7 @@ mod steps; // steps.rt: a datum delivered, a split divided, two closes
 // Two items at the heads of e and f: 18, 19, or the step.
 fn meet(m: &mut [u8], lengths: &[u8; 256], e: End, f: End, x: Item, y: Item) -> Reply
     requires sound_memory { SoundMemory m.old × (lengths.now ≡ lengths_of_rules) × (end_number e < end_count) × (end_number f < end_count) }
-    requires e_value { (head_of (end_at (view m.old) (end_number e)) ≡ some (item_of x))
+    requires heads { (head_of (end_at (view m.old) (end_number e)) ≡ some (item_of x))
         × (head_of (end_at (view m.old) (end_number f)) ≡ some (item_of y)) }
     ensures { Met m.old (end_number e) (end_number f)
         (meet_heads (view m.old) (end_number e) (end_number f) (some (item_of x)) (some (item_of y))) result m.new }

@@ -67,7 +67,7 @@ fn stands_named(held: Registers, e: End, i: Instruction) -> bool
 // Record r waits, and it stands where it waits for end e.
 fn stands_at(m: &[u8], lengths: &[u8; 256], e: End, r: Record) -> bool
     requires m_len { (length m.now ≡ state_size) × (canonical_bytes m.now ≡ true) × (record_number r < record_count) }
-    requires lengths_value { lengths.now ≡ lengths_of_rules }
+    requires length_table { lengths.now ≡ lengths_of_rules }
     ensures { result ≡ stands_in (view m.now).code (end_number e) (record_at (view m.now) (record_number r)) }
 {
     if let Status::Waiting = registers::status_of(m, r) {
@@ -84,7 +84,7 @@ fn stands_at(m: &[u8], lengths: &[u8; 256], e: End, r: Record) -> bool
 // A record that the last item of end e's queue names stands at that end.
 fn last_stands(m: &[u8], lengths: &[u8; 256], e: u8) -> bool
     requires m_len { (length m.now ≡ state_size) × (canonical_bytes m.now ≡ true) × (e < end_count) }
-    requires lengths_value { lengths.now ≡ lengths_of_rules }
+    requires length_table { lengths.now ≡ lengths_of_rules }
     ensures { result ≡ stands_test (view m.now) e }
 {
     match last_of(m, e as usize) {

@@ -145,8 +145,8 @@ fn join_digits(high: u8, low: u8) -> u8
 
 // The bytes that a hex word means go into a buffer at a place: the place behind them.
 pub fn read_hex(out: &mut [u8], at: usize, word: &[u8]) -> usize
-    requires word_value { is_hex word.now ≡ true }
-    requires word_in_bounds { at + length word.now / 2 ≤ length out.old }
+    requires hex { is_hex word.now ≡ true }
+    requires room { at + length word.now / 2 ≤ length out.old }
     ensures { Written out.old at (hex_bytes word.now) out.new result }
 {
     let mut i = 0;

@@ -81,21 +81,21 @@ pub dump-requires : goal.dump-requires
 dump-requires c =
     record {
       state_len = size (goal.at.dump-requires c).After-parse;
-      state_in_bounds = room (goal.at.dump-requires c).After-parse c.in-Dump.is;
+      room = room (goal.at.dump-requires c).After-parse c.in-Dump.is;
     }
 
 pub peek-requires : goal.peek-requires
 peek-requires c =
     record {
       state_len = size (goal.at.peek-requires c).After-parse;
-      count_in_bounds = room (goal.at.peek-requires c).After-parse c.in-Peek.is;
+      room = room (goal.at.peek-requires c).After-parse c.in-Peek.is;
     }
 
 pub poke-requires : goal.poke-requires
 poke-requires c =
     record {
       state_len = (size (goal.at.poke-requires c).After-parse, small (goal.at.poke-requires c).After-parse c.in-Poke.is);
-      bytes_in_bounds = room (goal.at.poke-requires c).After-parse c.in-Poke.is;
+      room = room (goal.at.poke-requires c).After-parse c.in-Poke.is;
     }
 
 pub returns-in-Unknown : goal.returns-in-Unknown

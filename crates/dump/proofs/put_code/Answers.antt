@@ -12,7 +12,7 @@ use Rattle.dump.proofs.put_code.Goals.{Start}
 whole : (s : Start)
     → let a = s.args in a.at + length (code_word ++ code_text (view a.m.now).code ++ 10 ∷ []) ≤ length a.out.now
 unfolding text
-whole s = s.requires.text_of_in_bounds
+whole s = s.requires.room
 
 two : (s : Start) → let a = s.args in a.at + length (code_word ++ code_text (view a.m.now).code) ≤ length a.out.now
 two s = let a = s.args in room_first a.at (code_word ++ code_text (view a.m.now).code) (10 ∷ []) a.out.now (whole s)

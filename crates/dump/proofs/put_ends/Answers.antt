@@ -5,7 +5,7 @@ use Rattle.dump.proofs.OneByOne.{no_line, line_room, line_more, all_lines}
 use Rattle.dump.proofs.put_ends.Goals as goal
 
 pub loop-e-init : goal.loop-e-init
-loop-e-init c = no_line c.requires.m_len.1.state_sound.S1.end_count_is
+loop-e-init c = no_line c.requires.sound.1.state_sound.S1.end_count_is
 
 pub put_end-next-requires : goal.put_end-next-requires
 unfolding ends_text
@@ -13,8 +13,8 @@ put_end-next-requires c =
     let pre = c.requires in
     let below = c.loop-e-test.true in
     record {
-      m_len = (pre.m_len.0, below, pre.m_len.1);
-      e_in_bounds = line_room c.loop-e.invariant free_end below pre.m_in_bounds;
+      sound = (pre.sound.0, below, pre.sound.1);
+      room = line_room c.loop-e.invariant free_end below pre.room;
     }
 
 pub loop-e-preserved : goal.loop-e-preserved

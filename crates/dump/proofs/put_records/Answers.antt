@@ -5,7 +5,7 @@ use Rattle.dump.proofs.OneByOne.{no_line, line_room, line_more, all_lines}
 use Rattle.dump.proofs.put_records.Goals as goal
 
 pub loop-r-init : goal.loop-r-init
-loop-r-init c = no_line c.requires.m_len.1.state_sound.S1.record_count_is
+loop-r-init c = no_line c.requires.sound.1.state_sound.S1.record_count_is
 
 pub put_record-next-requires : goal.put_record-next-requires
 unfolding records_text
@@ -13,8 +13,8 @@ put_record-next-requires c =
     let pre = c.requires in
     let below = c.loop-r-test.true in
     record {
-      m_len = (pre.m_len.0, below, pre.m_len.1);
-      r_in_bounds = line_room c.loop-r.invariant free_record below pre.m_in_bounds;
+      sound = (pre.sound.0, below, pre.sound.1);
+      room = line_room c.loop-r.invariant free_record below pre.room;
     }
 
 pub loop-r-preserved : goal.loop-r-preserved

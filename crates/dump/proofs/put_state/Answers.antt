@@ -25,7 +25,7 @@ last_line = 101 ∷ 110 ∷ 100 ∷ 10 ∷ []
 -- room for all, and for the parts up to each
 whole : (s : Start) → let a = s.args in a.at + length (through_ends (view a.m.now) ++ last_line) ≤ length a.out.now
 unfolding state_text text
-whole s = s.requires.m_in_bounds
+whole s = s.requires.room
 
 ends_room : (s : Start) → let a = s.args in a.at + length (through_ends (view a.m.now)) ≤ length a.out.now
 ends_room s = let a = s.args in room_first a.at (through_ends (view a.m.now)) last_line a.out.now (whole s)
@@ -43,8 +43,8 @@ put_code-behind_code-requires c =
     let s = c.requires.sound_memory in
     let lines = records_text (view m).records in
     record {
-      m_len = (memory_length m s, s);
-      text_of_in_bounds = room_first a.at (through_code (view m)) lines a.out.now
+      sound = (memory_length m s, s);
+      room = room_first a.at (through_code (view m)) lines a.out.now
           (records_room (goal.at.put_code-behind_code-requires c).Start);
     }
 
@@ -53,8 +53,8 @@ put_records-behind_records-requires c =
     let m = c.args.m.now in
     let s = c.requires.sound_memory in
     record {
-      m_len = (memory_length m s, s);
-      m_in_bounds = room_rest (records_text (view m).records) (records_room (goal.at.put_records-behind_records-requires c).Start)
+      sound = (memory_length m s, s);
+      room = room_rest (records_text (view m).records) (records_room (goal.at.put_records-behind_records-requires c).Start)
           c.put_code-behind_code.ensures;
     }
 
@@ -64,8 +64,8 @@ put_ends-behind_ends-requires c =
     let s = c.requires.sound_memory in
     let written = written_more c.put_code-behind_code.ensures c.put_records-behind_records.ensures in
     record {
-      m_len = (memory_length m s, s);
-      m_in_bounds = room_rest (ends_text (view m).ends) (ends_room (goal.at.put_ends-behind_ends-requires c).Start) written;
+      sound = (memory_length m s, s);
+      room = room_rest (ends_text (view m).ends) (ends_room (goal.at.put_ends-behind_ends-requires c).Start) written;
     }
 
 pub put_bytes-requires : goal.put_bytes-requires

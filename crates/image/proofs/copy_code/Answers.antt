@@ -10,7 +10,7 @@ use Rattle.image.proofs.copy_code.Goals.{After-code_length-end, After-least-stop
 
 -- ---- what is known on the way
 right : (s : Start) → Right s.args.image.now
-right s = (right_of s.args.image.now (code_in s.args.image.now) s.requires.image_value).0
+right s = (right_of s.args.image.now (code_in s.args.image.now) s.requires.image_reads).0
 
 -- the length that the image states
 stated : (c : After-code_length-end) → c.code_length-end.result ≡ code_length c.args.image.now
@@ -37,7 +37,7 @@ code_length-end-requires c = let r = right (goal.at.code_length-end-requires c).
 pub copy-requires : goal.copy-requires
 copy-requires c =
     let e = stated (goal.at.copy-requires c).After-code_length-end in
-    let fits = c.requires.image_in_bounds in
+    let fits = c.requires.room in
     let k = run (goal.at.copy-requires c).After-least-stop (stated (goal.at.copy-requires c).After-code_length-end) in
     let size = c.loop-i.invariant.2 in
     simp length-take (omega arith)

@@ -77,7 +77,7 @@ write_blocks-requires c =
     record {
       code_len_bound = search rules;
       count_le_block_limit = few;
-      count_in_bounds = search rules;
+      room = search rules;
     }
 
 pub returns : goal.returns

@@ -12,4 +12,4 @@ returns c =
     c.put_code_length.ensures
     ∙ ap (λ (m : List ℕ). put_at m 0 (bytes_of 2 a.length))
     (c.copy_code.ensures ∙ ap (λ (m : List ℕ). put_at m 2 (code_in a.image.now)) c.start.ensures)
-    ∙ installed a.image.now a.length c.requires.state_value.1 c.requires.length_len.0
+    ∙ installed a.image.now a.length c.requires.image_reads.1 c.requires.length_right.0

@@ -15,8 +15,8 @@ install-requires c =
     let image = c.args.image.now in
     let found = found_code image _ (ap found_answer (sym c.in-Code.is) ∙ c.read.ensures) in
     record {
-      state_value = (c.if-state-ne-STATE_SIZE.false, found.0);
-      length_len = (found.1, omega (arith, found.1, (code_long image found.0).1));
+      image_reads = (c.if-state-ne-STATE_SIZE.false, found.0);
+      length_right = (found.1, omega (arith, found.1, (code_long image found.0).1));
     }
 
 pub returns-in-Refused : goal.returns-in-Refused

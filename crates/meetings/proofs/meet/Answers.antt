@@ -17,7 +17,7 @@ right : (c : After-meeting_of)
     → RightIn (view c.args.m.now) c.args.e.0 c.args.f.0
     (item_of c.args.x) (item_of c.args.y) c.meeting_of.result
 right c =
-    c.meeting_of.ensures (view c.args.m.now) c.requires.e_value.0 c.requires.e_value.1
+    c.meeting_of.ensures (view c.args.m.now) c.requires.heads.0 c.requires.heads.1
 
 -- so what is answered is what that answer comes to
 same : (c : After-meeting_of) {answer : Meeting} → c.meeting_of.result ≡ answer

@@ -96,7 +96,7 @@ meet-requires c =
     let own = head_here (goal.at.meet-requires c).After-head ∙ ap head_in c.in-Item.is in
     record {
       sound_memory = (p.0, p.1, c.if-end.false, (partner_here (goal.at.meet-requires c).After-partner-f).1);
-      e_value = (own, head_there (goal.at.meet-requires c).After-head-2 ∙ ap head_in c.in-Item-head.is);
+      heads = (own, head_there (goal.at.meet-requires c).After-head-2 ∙ ap head_in c.in-Item-head.is);
     }
 
 pub returns : goal.returns

@@ -12,7 +12,7 @@ put_number_line-requires c =
     let test = c.is_sound in
     let unsound = sym test.ensures ∙ c.if-not-is_sound.true in
     let e = ap length (dump_unsound c.args.state.now c.requires.state_len unsound) in
-    omega (arith, e, c.requires.state_in_bounds)
+    omega (arith, e, c.requires.room)
 
 pub returns-then-not-is_sound : goal.returns-then-not-is_sound
 unfolding text
@@ -29,7 +29,7 @@ put_state-requires c =
     let e = ap length (dump_sound state c.requires.state_len sound) in
     record {
       sound_memory = memory_of_test state sound;
-      m_in_bounds = omega (arith, e, c.requires.state_in_bounds);
+      room = omega (arith, e, c.requires.room);
     }
 
 pub returns : goal.returns

@@ -10,7 +10,7 @@ unfolding text
 put_bytes-requires c =
     let a = c.args in
     let e = ap length (peek_outside a.state.now a.at a.count (omega arith)) in
-    omega (arith, e, c.requires.count_in_bounds)
+    omega (arith, e, c.requires.room)
 
 pub returns-then-to-gt-STATE_SIZE : goal.returns-then-to-gt-STATE_SIZE
 unfolding text
@@ -22,7 +22,7 @@ pub put_hex_line-requires : goal.put_hex_line-requires
 put_hex_line-requires c =
     let a = c.args in
     let e = ap length (peek_inside a.state.now a.at a.count (omega arith)) in
-    omega (arith, e, c.requires.count_in_bounds)
+    omega (arith, e, c.requires.room)
 
 pub returns : goal.returns
 returns c =

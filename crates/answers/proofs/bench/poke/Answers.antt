@@ -10,7 +10,7 @@ unfolding text
 put_bytes-requires c =
     let a = c.args in
     let e = ap length (poke_outside a.state.now a.at a.bytes.now (omega arith)).0 in
-    omega (arith, e, c.requires.bytes_in_bounds)
+    omega (arith, e, c.requires.room)
 
 pub returns-then-from-bytes-gt-STATE_SIZE : goal.returns-then-from-bytes-gt-STATE_SIZE
 unfolding text
@@ -27,7 +27,7 @@ unfolding text
 put_bytes-requires-2 c =
     let a = c.args in
     let e = ap length (poke_inside a.state.now a.at a.bytes.now (omega arith)).0 in
-    omega (arith, e, c.requires.bytes_in_bounds)
+    omega (arith, e, c.requires.room)
 
 pub returns : goal.returns
 unfolding text

@@ -10,19 +10,19 @@ use Rattle.code.proofs.forms.decode_fixed.Goals.{Start}
 
 -- ---- what is known in the arm of a first byte
 begins : (s : Start) (b : ℕ) → s.args.first ≡ b → byte_at s.args.code.now s.args.place 0 ≡ b
-begins s b key = sym s.requires.first_value ∙ key
+begins s b key = sym s.requires.first_byte ∙ key
 
 ends : (s : Start) (b : ℕ) {size : ℕ} → size_of (form_of b) ≡ size → s.args.first ≡ b → s.args.next ≡ s.args.place + size
 ends s b size key =
     let place = s.args.place in
-    s.requires.next_value.0 ∙ ap (λ (x : ℕ). place + size_of (form_of x)) key ∙ ap (λ (n : ℕ). place + n) size
+    s.requires.next_place.0 ∙ ap (λ (x : ℕ). place + size_of (form_of x)) key ∙ ap (λ (n : ℕ). place + n) size
 
 room :
     (s : Start) (b : ℕ) {size : ℕ}
     → size_of (form_of b) ≡ size
     → s.args.first ≡ b
     → s.args.place + size ≤ length s.args.code.now
-room s b size key = omega (arith, ends s b size key, s.requires.next_value.1)
+room s b size key = omega (arith, ends s b size key, s.requires.next_place.1)
 
 arm :
     (s : Start) (b : ℕ) {name : Name} {size : ℕ}
@@ -33,7 +33,7 @@ arm :
     → i ≡ instruction_at s.args.code.now s.args.place name
     → some (record { instruction = i; next = s.args.next }) ≡ decode s.args.code.now s.args.place
 arm s b row some_bytes key is =
-    fixed s.args.code.now s.args.place b row (begins s b key) some_bytes is (ends s b (ap size_of row) key) s.requires.next_value.1
+    fixed s.args.code.now s.args.place b row (begins s b key) some_bytes is (ends s b (ap size_of row) key) s.requires.next_place.1
 
 -- ---- the operands lie in the code
 pub signed_at-requires : goal.signed_at-requires
@@ -94,7 +94,7 @@ hcase_at-requires c = (
   begins (goal.at.hcase_at-requires c).Start 0x19 c.in-25.is,
   ends (goal.at.hcase_at-requires c).Start 0x19 refl
       c.in-25.is,
-  c.requires.next_value.1,
+  c.requires.next_place.1,
 )
 
 pub run_at-requires : goal.run_at-requires
@@ -103,7 +103,7 @@ run_at-requires c = (
   begins (goal.at.run_at-requires c).Start 0x1A c.in-26.is,
   ends (goal.at.run_at-requires c).Start 0x1A refl
       c.in-26.is,
-  c.requires.next_value.1,
+  c.requires.next_place.1,
 )
 
 -- ---- answers
@@ -175,4 +175,4 @@ returns-in-24 c =
     (λ i. hput (c.slot_at-in-24.ensures i) (c.byte_at-in-24.ensures i))
 
 pub returns-in_default : goal.returns-in_default
-returns-in_default c = begins_none _ _ (rw c.requires.first_value at c.in_default.in_default-own.rest)
+returns-in_default c = begins_none _ _ (rw c.requires.first_byte at c.in_default.in_default-own.rest)

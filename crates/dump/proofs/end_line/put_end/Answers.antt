@@ -15,7 +15,7 @@ pub returns-then-is_free : goal.returns-then-is_free
 returns-then-is_free c =
     let a = c.args in
     let m = a.m.now in
-    let s = c.requires.m_len.2 in
+    let s = c.requires.sound.2 in
     let free = sym (c.is_free.ensures (view m) (memory_sized m s) s.laid_out) ∙ c.if-is_free.true in
     written_as (free_line a.e (end_at (view m) a.e) free) (written_none a.out.now a.at)
 
@@ -27,7 +27,7 @@ parts : (c : After-partner)
 parts c =
     let a = c.args in
     let m = a.m.now in
-    let s = c.requires.m_len.2 in
+    let s = c.requires.sound.2 in
     let x = end_at (view m) a.e in
     let in_use = sym (c.is_free.ensures (view m) (memory_sized m s) s.laid_out) ∙ c.if-is_free.false in
     ap (λ (p : ℕ). head_text a.e p ++ list_text (item_texts x) ++ 10 ∷ [])
@@ -39,7 +39,7 @@ whole : (c : After-partner)
     → let a = c.args in
     let x = end_at (view a.m.now) a.e in
     a.at + length (head_text a.e c.partner.result.0 ++ list_text (item_texts x) ++ 10 ∷ []) ≤ length a.out.now
-whole c = room_as c.args.at _ _ c.args.out.now (parts c) c.requires.e_in_bounds
+whole c = room_as c.args.at _ _ c.args.out.now (parts c) c.requires.room
 
 two : (c : After-partner)
     → let a = c.args in
@@ -60,8 +60,8 @@ pub put_queue-queue-requires : goal.put_queue-queue-requires
 put_queue-queue-requires c =
     let a = c.args in
     record {
-      m_len = c.requires.m_len;
-      e_in_bounds = room_rest (list_text (item_texts (end_at (view a.m.now) a.e)))
+      sound = c.requires.sound;
+      room = room_rest (list_text (item_texts (end_at (view a.m.now) a.e)))
           (two (goal.at.put_queue-queue-requires c).After-partner) c.put_head-head.ensures;
     }
 

@@ -15,21 +15,21 @@ use Rattle.dump.proofs.end_line.put_next.Goals.{In-Item, Start}
 
 -- the index is one of a cell
 inside : (s : Start) → s.args.k < queue_depth
-inside s = let a = s.args in index_within a.m.now s.requires.m_len.2 a.e a.k s.requires.k_in_bounds
+inside s = let a = s.args in index_within a.m.now s.requires.sound.2 a.e a.k s.requires.in_queue
 
 pub overflow_cast-k : goal.overflow_cast-k
 overflow_cast-k c = let small = inside (goal.at.overflow_cast-k c).Start in omega arith
 
 pub item_at-requires : goal.item_at-requires
-item_at-requires c = (c.requires.m_len.0, c.requires.m_len.1, inside (goal.at.item_at-requires c).Start)
+item_at-requires c = (c.requires.sound.0, c.requires.sound.1, inside (goal.at.item_at-requires c).Start)
 
 pub returns-in_default : goal.returns-in_default
 returns-in_default c =
     let m = c.args.m.now in
-    let s = c.requires.m_len.2 in
+    let s = c.requires.sound.2 in
     let x = end_at (view m) c.args.e in
     let found = c.item_at.ensures (view m) (memory_sized m s) s.laid_out (sound_fits (view m) s.state_sound _) in
-    item_there x c.args.k c.requires.k_in_bounds (ap head_in (sym c.in_default.is) ∙ found)
+    item_there x c.args.k c.requires.in_queue (ap head_in (sym c.in_default.is) ∙ found)
 
 -- what is found is what is shown
 item_is : (c : In-Item)
@@ -37,7 +37,7 @@ item_is : (c : In-Item)
     item_text (item_of c.in-Item.item) ≡ get_or (item_texts (end_at (view a.m.now) a.e)) a.k []
 item_is c =
     let m = c.args.m.now in
-    let s = c.requires.m_len.2 in
+    let s = c.requires.sound.2 in
     let x = end_at (view m) c.args.e in
     let found = c.item_at.ensures (view m) (memory_sized m s) s.laid_out (sound_fits (view m) s.state_sound _) in
     item_shown x c.args.k _ (ap head_in (sym c.in-Item.is) ∙ found)

@@ -16,7 +16,7 @@ counted : (c : After-queued-count)
 counted c =
     let a = c.args in
     let m = a.m.now in
-    let s = c.requires.m_len.2 in
+    let s = c.requires.sound.2 in
     let is = c.queued-count.ensures.queued (view m) (memory_sized m s) s.laid_out in
     omega (arith, is, items_count (end_at (view m) a.e))
 
@@ -31,9 +31,9 @@ put_next-next-requires c =
     let l = c.loop-k in
     let inside : l.k < length all = omega (arith, c.loop-k-test.true, counted (goal.at.put_next-next-requires c).After-queued-count) in
     record {
-      m_len = c.requires.m_len;
-      k_in_bounds = inside;
-      room = index_room all l.k l.invariant.2 [] inside c.requires.e_in_bounds;
+      sound = c.requires.sound;
+      in_queue = inside;
+      room = index_room all l.k l.invariant.2 [] inside c.requires.room;
     }
 
 pub loop-k-preserved : goal.loop-k-preserved
@@ -57,7 +57,7 @@ put_dash-requires c =
       counted
           (goal.at.put_dash-requires c).After-queued-count,
     ) in
-    index_dash_room all l.k l.invariant.2 enough c.requires.e_in_bounds
+    index_dash_room all l.k l.invariant.2 enough c.requires.room
 
 pub returns : goal.returns
 returns c =

@@ -41,7 +41,7 @@ put_value-next-requires c =
     let fits = values_fit stack_depth a.values _ c.well_formed.1.1.0 l.k in
     let inside : l.k < length all = omega (arith, below, counted (goal.at.put_value-next-requires c).Start) in
     room_as l.next _ _ l.out (value_text a.count l.k a.values below fits)
-    (index_room all l.k l.invariant.2 (signed_decimal (pos 0)) inside c.requires.values_in_bounds)
+    (index_room all l.k l.invariant.2 (signed_decimal (pos 0)) inside c.requires.room)
 
 pub loop-k-preserved : goal.loop-k-preserved
 loop-k-preserved c =
@@ -60,7 +60,7 @@ put_dash-requires c =
     let l = c.loop-k in
     let all = value_texts c.args.count c.args.values in
     let enough : length all ≡ l.k = omega (arith, c.loop-k-test.false, l.invariant.0, counted (goal.at.put_dash-requires c).Start) in
-    index_dash_room all l.k l.invariant.2 enough c.requires.values_in_bounds
+    index_dash_room all l.k l.invariant.2 enough c.requires.room
 
 pub returns : goal.returns
 unfolding values_text

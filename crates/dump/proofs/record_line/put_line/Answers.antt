@@ -12,7 +12,7 @@ whole : (s : Start)
     → let a = s.args in
     a.at + length (82 ∷ decimal a.r ++ a.status.now ++ registers_text (process_in a.g)) ≤ length a.out.now
 unfolding text
-whole s = s.requires.g_in_bounds
+whole s = s.requires.room
 
 two : (s : Start) → let a = s.args in a.at + length (82 ∷ decimal a.r ++ a.status.now) ≤ length a.out.now
 two s =
@@ -32,7 +32,7 @@ put_registers-requires c =
     let written = written_more c.put_lettered-numbered.ensures c.put_bytes-told.ensures in
     record {
       stack_count_bound = (c.requires.stack_count_bound.0, c.requires.stack_count_bound.1);
-      g_in_bounds = room_rest (registers_text (process_in c.args.g)) (whole (goal.at.put_registers-requires c).Start) written;
+      room = room_rest (registers_text (process_in c.args.g)) (whole (goal.at.put_registers-requires c).Start) written;
     }
 
 pub returns : goal.returns

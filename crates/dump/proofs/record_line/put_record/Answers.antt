@@ -15,33 +15,33 @@ status_is : (c : After-status_of)
     → let a = c.args in c.status_of.result ≡ status_of (record_at (view a.m.now) a.r)
 status_is c =
     let m = c.args.m.now in
-    let s = c.requires.m_len.2 in
+    let s = c.requires.sound.2 in
     c.status_of.ensures (view m) (memory_sized m s) s.laid_out
 
 pub put_line-requires : goal.put_line-requires
 put_line-requires c =
     let a = c.args in
     let m = a.m.now in
-    let s = c.requires.m_len.2 in
+    let s = c.requires.sound.2 in
     let loads = c.load-g.ensures in
     let status = sym c.in-Running.is ∙ status_is (goal.at.put_line-requires c).After-status_of in
     let line = running_line a.r (record_at (view m) a.r) (process_is m s a.r loads) status in
     record {
       stack_count_bound = counts_within m s a.r loads;
-      g_in_bounds = room_as a.at _ _ a.out.now line c.requires.r_in_bounds;
+      room = room_as a.at _ _ a.out.now line c.requires.room;
     }
 
 pub put_line-requires-in-Waiting : goal.put_line-requires-in-Waiting
 put_line-requires-in-Waiting c =
     let a = c.args in
     let m = a.m.now in
-    let s = c.requires.m_len.2 in
+    let s = c.requires.sound.2 in
     let loads = c.load-g.ensures in
     let status = sym c.in-Waiting.is ∙ status_is (goal.at.put_line-requires-in-Waiting c).After-status_of in
     let line = waiting_line a.r (record_at (view m) a.r) (process_is m s a.r loads) status in
     record {
       stack_count_bound = counts_within m s a.r loads;
-      g_in_bounds = room_as a.at _ _ a.out.now line c.requires.r_in_bounds;
+      room = room_as a.at _ _ a.out.now line c.requires.room;
     }
 
 pub returns-in-Free : goal.returns-in-Free
@@ -55,7 +55,7 @@ pub returns-in-Running : goal.returns-in-Running
 returns-in-Running c =
     let a = c.args in
     let m = a.m.now in
-    let s = c.requires.m_len.2 in
+    let s = c.requires.sound.2 in
     let status = sym c.in-Running.is ∙ status_is (goal.at.returns-in-Running c).After-status_of in
     let process = process_is m s a.r c.load-g.ensures in
     written_as (running_line a.r (record_at (view m) a.r) process status) c.put_line.ensures
@@ -64,7 +64,7 @@ pub returns-in-Waiting : goal.returns-in-Waiting
 returns-in-Waiting c =
     let a = c.args in
     let m = a.m.now in
-    let s = c.requires.m_len.2 in
+    let s = c.requires.sound.2 in
     let status = sym c.in-Waiting.is ∙ status_is (goal.at.returns-in-Waiting c).After-status_of in
     let process = process_is m s a.r c.load-g.ensures in
     written_as (waiting_line a.r (record_at (view m) a.r) process status) c.put_line-in-Waiting.ensures

@@ -11,7 +11,7 @@ use Rattle.dump.proofs.record_line.put_registers.Goals.{Start}
 
 -- room for all, and for the parts up to each
 whole : (s : Start) → let a = s.args in a.at + length (through_slots (process_in a.g) ++ 10 ∷ []) ≤ length a.out.now
-whole s = let a = s.args in room_as a.at _ _ a.out.now (registers_parts (process_in a.g)) s.requires.g_in_bounds
+whole s = let a = s.args in room_as a.at _ _ a.out.now (registers_parts (process_in a.g)) s.requires.room
 
 slots_room_lem : (s : Start) → let a = s.args in a.at + length (through_slots (process_in a.g)) ≤ length a.out.now
 slots_room_lem s = let a = s.args in room_first a.at (through_slots (process_in a.g)) (10 ∷ []) a.out.now (whole s)
@@ -43,7 +43,7 @@ put_named_values-stacked-requires c =
     let g = process_in c.args.g in
     record {
       count_le_stack_depth = c.requires.stack_count_bound.0;
-      values_in_bounds = room_rest (stack_part (values_text g.stack)) (stack_room (goal.at.put_named_values-stacked-requires c).Start)
+      room = room_rest (stack_part (values_text g.stack)) (stack_room (goal.at.put_named_values-stacked-requires c).Start)
           c.put_decimal-placed.ensures;
     }
 
@@ -53,7 +53,7 @@ put_named_values-both-requires c =
     let written = written_more c.put_decimal-placed.ensures c.put_named_values-stacked.ensures in
     record {
       count_le_stack_depth = c.requires.stack_count_bound.1;
-      values_in_bounds = room_rest (environment_part (values_text g.environment))
+      room = room_rest (environment_part (values_text g.environment))
           (environment_room (goal.at.put_named_values-both-requires c).Start) written;
     }
 

@@ -15,7 +15,7 @@ pub stands_at-requires : goal.stands_at-requires
 stands_at-requires c =
     record {
       m_len = (c.requires.m_len.0, c.requires.m_len.1, wait_within c.in-Wait.is c.last_of.ensures.within);
-      lengths_value = c.requires.lengths_value;
+      length_table = c.requires.length_table;
     }
 
 pub returns-in-Nothing : goal.returns-in-Nothing

@@ -7,7 +7,7 @@ pub join_digits-requires : goal.join_digits-requires
 join_digits-requires c =
     let w = c.args.word.now in
     let i = c.loop-i.i in
-    let digits = hex_digits w c.requires.word_value in
+    let digits = hex_digits w c.requires.hex in
     (digit_below 16 w (2 * i) digits (omega arith), digit_below 16 w (2 * i + 1) digits (omega arith))
 
 pub loop-i-preserved : goal.loop-i-preserved
