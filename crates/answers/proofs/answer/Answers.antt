@@ -49,9 +49,18 @@ room c {x} is =
 given : (c : After-parse) {x : Command} → c.parse.result ≡ x → {printed left : List ℕ} {r : ℕ}
     → Written (out c) 0 (answer_text (line c) (state c) (meaning (bytes c) x)) printed r
     → left ≡ state_after (state c) (meaning (bytes c) x)
-    → Written (out c) 0 (answer_text (line c) (state c) (asked (line c))) printed r
-    × ((left ≡ state_after (state c) (asked (line c))) × (r ≤ output_size))
-given c {x} is says leaves = answer_given (line c) (state c) (meaning (bytes c) x) (asks c is) (size c) says leaves
+    → record {
+      says : Written (out c) 0 (answer_text (line c) (state c) (asked (line c))) printed r;
+      leaves : left ≡ state_after (state c) (asked (line c));
+      within : r ≤ output_size;
+    }
+given c {x} is says leaves =
+    let told = answer_given (line c) (state c) (meaning (bytes c) x) (asks c is) (size c) says leaves in
+    record {
+      says = told.0;
+      leaves = told.1.0;
+      within = told.1.1;
+    }
 
 pub unknown-requires : goal.unknown-requires
 unknown-requires c = room (goal.at.unknown-requires c).After-parse c.in-Unknown.is
@@ -99,100 +108,34 @@ poke-requires c =
     }
 
 pub returns-in-Unknown : goal.returns-in-Unknown
-returns-in-Unknown c =
-    let told = given (goal.at.returns-in-Unknown c).After-parse c.in-Unknown.is c.unknown.ensures refl in
-    record {
-      says = told.0;
-      leaves = told.1.0;
-      within = told.1.1;
-    }
+returns-in-Unknown c = given (goal.at.returns-in-Unknown c).After-parse c.in-Unknown.is c.unknown.ensures refl
 
 pub returns-in-Remark : goal.returns-in-Remark
-returns-in-Remark c =
-    let told = given (goal.at.returns-in-Remark c).After-parse c.in-Remark.is c.remark.ensures refl in
-    record {
-      says = told.0;
-      leaves = told.1.0;
-      within = told.1.1;
-    }
+returns-in-Remark c = given (goal.at.returns-in-Remark c).After-parse c.in-Remark.is c.remark.ensures refl
 
 pub returns-in-Load : goal.returns-in-Load
-returns-in-Load c =
-    let told = given (goal.at.returns-in-Load c).After-parse c.in-Load.is c.load.ensures.says c.load.ensures.leaves in
-    record {
-      says = told.0;
-      leaves = told.1.0;
-      within = told.1.1;
-    }
+returns-in-Load c = given (goal.at.returns-in-Load c).After-parse c.in-Load.is c.load.ensures.says c.load.ensures.leaves
 
 pub returns-in-Write : goal.returns-in-Write
-returns-in-Write c =
-    let told = given (goal.at.returns-in-Write c).After-parse c.in-Write.is c.write.ensures refl in
-    record {
-      says = told.0;
-      leaves = told.1.0;
-      within = told.1.1;
-    }
+returns-in-Write c = given (goal.at.returns-in-Write c).After-parse c.in-Write.is c.write.ensures refl
 
 pub returns-in-Record : goal.returns-in-Record
-returns-in-Record c =
-    let told = given (goal.at.returns-in-Record c).After-parse c.in-Record.is c.step_record.ensures.says c.step_record.ensures.leaves in
-    record {
-      says = told.0;
-      leaves = told.1.0;
-      within = told.1.1;
-    }
+returns-in-Record c = given (goal.at.returns-in-Record c).After-parse c.in-Record.is c.step_record.ensures.says c.step_record.ensures.leaves
 
 pub returns-in-End : goal.returns-in-End
-returns-in-End c =
-    let told = given (goal.at.returns-in-End c).After-parse c.in-End.is c.step_end.ensures.says c.step_end.ensures.leaves in
-    record {
-      says = told.0;
-      leaves = told.1.0;
-      within = told.1.1;
-    }
+returns-in-End c = given (goal.at.returns-in-End c).After-parse c.in-End.is c.step_end.ensures.says c.step_end.ensures.leaves
 
 pub returns-in-Run : goal.returns-in-Run
-returns-in-Run c =
-    let told = given (goal.at.returns-in-Run c).After-parse c.in-Run.is c.run.ensures.says c.run.ensures.leaves in
-    record {
-      says = told.0;
-      leaves = told.1.0;
-      within = told.1.1;
-    }
+returns-in-Run c = given (goal.at.returns-in-Run c).After-parse c.in-Run.is c.run.ensures.says c.run.ensures.leaves
 
 pub returns-in-Free : goal.returns-in-Free
-returns-in-Free c =
-    let told = given (goal.at.returns-in-Free c).After-parse c.in-Free.is c.free.ensures refl in
-    record {
-      says = told.0;
-      leaves = told.1.0;
-      within = told.1.1;
-    }
+returns-in-Free c = given (goal.at.returns-in-Free c).After-parse c.in-Free.is c.free.ensures refl
 
 pub returns-in-Dump : goal.returns-in-Dump
-returns-in-Dump c =
-    let told = given (goal.at.returns-in-Dump c).After-parse c.in-Dump.is c.dump.ensures refl in
-    record {
-      says = told.0;
-      leaves = told.1.0;
-      within = told.1.1;
-    }
+returns-in-Dump c = given (goal.at.returns-in-Dump c).After-parse c.in-Dump.is c.dump.ensures refl
 
 pub returns-in-Peek : goal.returns-in-Peek
-returns-in-Peek c =
-    let told = given (goal.at.returns-in-Peek c).After-parse c.in-Peek.is c.peek.ensures refl in
-    record {
-      says = told.0;
-      leaves = told.1.0;
-      within = told.1.1;
-    }
+returns-in-Peek c = given (goal.at.returns-in-Peek c).After-parse c.in-Peek.is c.peek.ensures refl
 
 pub returns-in-Poke : goal.returns-in-Poke
-returns-in-Poke c =
-    let told = given (goal.at.returns-in-Poke c).After-parse c.in-Poke.is c.poke.ensures.says c.poke.ensures.leaves in
-    record {
-      says = told.0;
-      leaves = told.1.0;
-      within = told.1.1;
-    }
+returns-in-Poke c = given (goal.at.returns-in-Poke c).After-parse c.in-Poke.is c.poke.ensures.says c.poke.ensures.leaves
