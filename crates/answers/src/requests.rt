@@ -13,7 +13,7 @@ ghost use Rattle.answers.specs.Answers.{counted_text, free_answered};
 use crate::lines::{put_hex_line, put_number_line, put_verdict_line};
 use image::{BLOCK_LIMIT, BLOCK_SIZE, block_count};
 use machine::FreeEnds;
-use rules::{Reply, number_of};
+use rules::{Refusal, number_of};
 use runner::{Ran, Verdict};
 use text::{put_bytes, put_decimal};
 
@@ -45,7 +45,7 @@ pub fn write(code: &[u8], out: &mut [u8]) -> usize
 {
     let mut image = [0u8; IMAGE_ROOM];
     match image::write(code, &mut image) {
-        Reply::Done => {
+        Ok(()) => {
             let behind = put_number_line(out, 0, b"write ", 0);
             let size = image_size(code.len());
             put_hex_line(out, behind, &image[..size])

@@ -11,39 +11,39 @@ use crate::dispatch::step_instruction;
 use code::Decoded;
 use meetings::step_end;
 use registers::Status;
-use rules::{NO_INSTRUCTION, NO_RECORD, RECORD_COUNT, RECORD_WAITING, Record, Reply};
+use rules::{Record, Refusal, RECORD_COUNT};
 
 // The instruction at the place of a record that runs; 4 where there is none.
-fn step_running(m: &mut [u8], lengths: &[u8; 256], r: Record) -> Reply
+fn step_running(m: &mut [u8], lengths: &[u8; 256], r: Record) -> Result<(), Refusal>
     requires m_len { length m.old ≡ state_size }
     requires sound_memory { SoundMemory m.old × (lengths.now ≡ lengths_of_rules) × RunsAt m.old (record_number r) }
     ensures { RecordStepped m.old (record_number r) result m.new }
 {
     let place = registers::place_of(m, r) as usize;
     match code::decode(lengths, stepping::code(m), place) {
-        Decoded::Bad => Reply::Refused(NO_INSTRUCTION),
+        Decoded::Bad => Err(Refusal::NoInstruction),
         Decoded::Good(i, next) => step_instruction(m, r, place, i, next as u16),
     }
 }
 
 // Any number may be asked.
-pub fn step_record(m: &mut [u8], lengths: &[u8; 256], record: u32) -> Reply
+pub fn step_record(m: &mut [u8], lengths: &[u8; 256], record: u32) -> Result<(), Refusal>
     requires m_len { length m.old ≡ state_size }
     requires sound_memory { SoundMemory m.old × (lengths.now ≡ lengths_of_rules) }
     ensures { RecordStepped m.old «record» result m.new }
 {
     if RECORD_COUNT as u32 <= record {
-        return Reply::Refused(NO_RECORD);
+        return Err(Refusal::NoRecord);
     }
     let r = Record(record as u8);
     match registers::status_of(m, r) {
-        Status::Free => Reply::Refused(NO_RECORD),
+        Status::Free => Err(Refusal::NoRecord),
         Status::Running => step_running(m, lengths, r),
-        Status::Waiting => Reply::Refused(RECORD_WAITING),
+        Status::Waiting => Err(Refusal::RecordWaiting),
     }
 }
 
-pub fn step(m: &mut [u8], lengths: &[u8; 256], position: u32) -> Reply
+pub fn step(m: &mut [u8], lengths: &[u8; 256], position: u32) -> Result<(), Refusal>
     requires m_len { length m.old ≡ state_size }
     requires sound_memory { SoundMemory m.old × (lengths.now ≡ lengths_of_rules) }
     ensures { PositionStepped m.old position result m.new }

@@ -9,8 +9,6 @@ use Rattle.rules.specs.State.{Registers}
 use Rattle.rules.specs.Refusal.{Row, refused, done, unless}
 use Rattle.rules.specs.Instruction.{Instruction}
 use Rattle.rules.specs.Causes.{own_causes}
-use Rattle.rules.specs.Numbers.{reply_to}
-use Rattle.rules.specs.declared.Reply.TheVariants.{Done, Refused}
 use Rattle.rules.proofs.Rows.{row_at, Passed, none_passed, passed, stopped}
 use Rattle.rules.proofs.TestLaws.{true_is_not_false}
 use Rattle.causes.specs.Own.{own_reply, any_of}
@@ -30,13 +28,13 @@ module _ {g : Registers} {i : Instruction} {k : ℕ} (p : OwnPassed g i k) {b : 
   pub next : b ≡ false → OwnPassed g i (suc k)
   next fails = record { rows_passed = passed p.rows_passed (sym is ∙ fails) }
 
-  pub stop : b ≡ true → Refused (own_row g i k).0 ≡ own_reply g i
-  stop holds = ap reply_to (sym (stopped p.rows_passed (sym is ∙ holds)))
+  pub stop : b ≡ true → refused (own_row g i k).0 ≡ own_reply g i
+  stop holds = sym (stopped p.rows_passed (sym is ∙ holds))
 
-pub through : {g : Registers} {i : Instruction} {k : ℕ} → OwnPassed g i k → drop k (own_causes g i) ≡ [] → Done ≡ own_reply g i
+pub through : {g : Registers} {i : Instruction} {k : ℕ} → OwnPassed g i k → drop k (own_causes g i) ≡ [] → done tt ≡ own_reply g i
 unfolding unless
 through {g} {i} p e =
-    ap reply_to (sym (p.rows_passed.left ∙ ap (λ rows. unless rows (done tt)) e))
+    sym (p.rows_passed.left ∙ ap (λ rows. unless rows (done tt)) e)
 
 -- ---- several rows of one number, tested at once
 
@@ -56,8 +54,8 @@ group_fails n (false ∷ tests) rest h = group_fails n tests rest h
 
 module _ (g : Registers) (i : Instruction) (n : ℕ) (tests : List Bool) (rest : List Row)
     (are : own_causes g i ≡ map (λ (test : Bool). (n, test)) tests ++ rest) {b : Bool} (is : b ≡ any_of tests) where
-  pub stop_group : b ≡ true → Refused n ≡ own_reply g i
-  stop_group holds = ap reply_to (sym (ap (λ rows. unless rows (done tt)) are ∙ group_holds n tests rest (sym is ∙ holds)))
+  pub stop_group : b ≡ true → refused n ≡ own_reply g i
+  stop_group holds = sym (ap (λ rows. unless rows (done tt)) are ∙ group_holds n tests rest (sym is ∙ holds))
 
   pub next_group : b ≡ false → (k : ℕ) → drop k (own_causes g i) ≡ rest → OwnPassed g i k
   next_group fails k behind = record {

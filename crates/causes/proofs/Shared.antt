@@ -6,42 +6,36 @@ use mathlib.Core.List.{List, [], ◌∷◌, ◌++◌}
 use Prim.Native.Nat.{ℕ}
 use native.Mathlib.Omega.{arith}
 use Rattle.rules.specs.State.{State, Registers}
-use Rattle.rules.specs.Refusal.{Answer, refused, done, Row, unless, NoCause}
+use Rattle.rules.specs.Refusal.{Answer, refused, done, Row, unless, number_of, NoCause}
 use Rattle.rules.specs.Instruction.{Instruction}
 use Rattle.rules.specs.Causes.{own_causes, shared_causes}
 use Rattle.rules.specs.RecordStep.{lowest_free, after}
 use Rattle.rules.specs.Ask.{answer_to}
-use Rattle.rules.specs.Numbers.{reply_to, reply_number}
 use Rattle.rules.proofs.Promises.{is_refused}
-use Rattle.rules.specs.declared.Reply.TheVariants.{Done, Refused}
 use Rattle.rules.proofs.Rows.{all_passed}
 use Rattle.causes.specs.Own.{rows_reply, own_reply}
 
-pub refused_not_done : {A : Type 0} {n : ℕ} → Refused n ≡ Done → A
+pub refused_not_done : {A : Type 0} {n : ℕ} → ◌≡◌ {A = Answer (Unit {0})} (refused n) (done tt) → A
 refused_not_done e = absurd (let z : ◌≡◌ {A = ℕ} 1 0 = ap is_refused e in omega arith)
 
 -- ---- any rows
 
 -- where the reply is done none of them holds
-pub none_holds : (rows : List Row) → rows_reply rows ≡ Done → NoCause rows
-none_holds rows e = (all_passed rows (done tt) tt (is_done (unless rows (done tt)) e)).0
-  where
-    is_done : (a : Answer (Unit {0})) → reply_to a ≡ Done → a ≡ done tt
-    is_done (refused n) q = refused_not_done q
-    is_done (done tt) q = refl
+pub none_holds : (rows : List Row) → rows_reply rows ≡ done tt → NoCause rows
+none_holds rows e = (all_passed rows (done tt) tt e).0
 
 -- and the answer is the one behind them
-pub goes_on : {A : Type 0} (rows : List Row) (a : Answer A) → rows_reply rows ≡ Done → unless rows a ≡ a
+pub goes_on : {A : Type 0} (rows : List Row) (a : Answer A) → rows_reply rows ≡ done tt → unless rows a ≡ a
 unfolding unless
 goes_on [] a e = refl
 goes_on ((k, true) ∷ rows) a e = refused_not_done e
 goes_on ((k, false) ∷ rows) a e = goes_on rows a e
 
 -- where the reply is a number, the answer is
-pub one_holds : {A : Type 0} (rows : List Row) (a : Answer A) (n : ℕ) → rows_reply rows ≡ Refused n → unless rows a ≡ refused n
+pub one_holds : {A : Type 0} (rows : List Row) (a : Answer A) (n : ℕ) → rows_reply rows ≡ refused n → unless rows a ≡ refused n
 unfolding unless
 one_holds [] a n e = refused_not_done (sym e)
-one_holds ((k, true) ∷ rows) a n e = ap refused (ap reply_number e)
+one_holds ((k, true) ∷ rows) a n e = ap refused (ap number_of e)
 one_holds ((k, false) ∷ rows) a n e = one_holds rows a n e
 
 -- rows in two parts are asked one part after the other
@@ -59,9 +53,9 @@ module _ (st : State) (r next : ℕ) (g : Registers) (i : Instruction) where
   unfolding answer_to
   own_first = in_parts (own_causes g i) (shared_causes st g i) _
 
-  pub own_refused : (n : ℕ) → own_reply g i ≡ Refused n → answer_to st r next g i ≡ refused n
+  pub own_refused : (n : ℕ) → own_reply g i ≡ refused n → answer_to st r next g i ≡ refused n
   own_refused n e = own_first ∙ one_holds (own_causes g i) _ n e
 
-  pub own_done : own_reply g i ≡ Done
+  pub own_done : own_reply g i ≡ done tt
       → answer_to st r next g i ≡ unless (shared_causes st g i) (done (after st r next g (lowest_free st) i))
   own_done e = own_first ∙ goes_on (own_causes g i) _ e

@@ -4,148 +4,153 @@ ghost use Rattle.rules.specs.State.{Registers as Process};
 ghost use Rattle.rules.specs.Instruction.{put as put_of, get as get_of, split as split_of, fork as fork_of};
 ghost use Rattle.rules.specs.Instruction.{close as close_of, halt as halt_of, hput as hput_of, hcase as hcase_of};
 ghost use Rattle.rules.specs.Sound.{RegistersWithin};
-ghost use Rattle.rules.specs.Numbers.{slot_number};
+ghost use Rattle.rules.specs.Numbers.{answer_of, slot_number};
 ghost use Rattle.registers.specs.Registers.{registers_of};
 ghost use Rattle.causes.specs.Own.{own_reply};
 
 use crate::rows;
 use code::Branch;
 use registers::Registers;
-use rules::{
-    ENDS_LOST_OR_DOUBLED, FEW_VALUES, Reply, STACK_NOT_EMPTY, Slot, TOO_MANY_VALUES, WRONG_SLOT,
-};
+use rules::{Refusal, Slot};
 
-pub fn put(held: Registers, c: Slot) -> Reply
-    ensures { (g : Process) → RegistersWithin g → held ≡ registers_of g → result ≡ own_reply g (put_of (slot_number c)) }
+pub fn put(held: Registers, c: Slot) -> Result<(), Refusal>
+    ensures { (g : Process) → RegistersWithin g → held ≡ registers_of g → answer_of result ≡ own_reply g (put_of (slot_number c)) }
 {
     if rows::fewer(held, 1) {
-        return Reply::Refused(FEW_VALUES);
+        return Err(Refusal::FewValues);
     }
     if rows::over(c) {
-        return Reply::Refused(WRONG_SLOT);
+        return Err(Refusal::WrongSlot);
     }
     if rows::empty(held, c) {
-        return Reply::Refused(WRONG_SLOT);
+        return Err(Refusal::WrongSlot);
     }
-    Reply::Done
+    Ok(())
 }
 
-pub fn get(held: Registers, c: Slot) -> Reply
-    ensures { (g : Process) → RegistersWithin g → held ≡ registers_of g → result ≡ own_reply g (get_of (slot_number c)) }
+pub fn get(held: Registers, c: Slot) -> Result<(), Refusal>
+    ensures { (g : Process) → RegistersWithin g → held ≡ registers_of g → answer_of result ≡ own_reply g (get_of (slot_number c)) }
 {
     if rows::stack_full(held) {
-        return Reply::Refused(TOO_MANY_VALUES);
+        return Err(Refusal::TooManyValues);
     }
     if rows::over(c) {
-        return Reply::Refused(WRONG_SLOT);
+        return Err(Refusal::WrongSlot);
     }
     if rows::empty(held, c) {
-        return Reply::Refused(WRONG_SLOT);
+        return Err(Refusal::WrongSlot);
     }
-    Reply::Done
+    Ok(())
 }
 
-pub fn split(held: Registers, c: Slot, a: Slot, b: Slot) -> Reply
+pub fn split(held: Registers, c: Slot, a: Slot, b: Slot) -> Result<(), Refusal>
     ensures { (g : Process) → RegistersWithin g → held ≡ registers_of g
-        → result ≡ own_reply g (split_of (slot_number c) (slot_number a) (slot_number b)) }
+        → answer_of result ≡ own_reply g (split_of (slot_number c) (slot_number a) (slot_number b)) }
 {
     if rows::wrong_slots(held, c, a, b) {
-        return Reply::Refused(WRONG_SLOT);
+        return Err(Refusal::WrongSlot);
     }
     if rows::one_slot(a, b) {
-        return Reply::Refused(WRONG_SLOT);
+        return Err(Refusal::WrongSlot);
     }
     if rows::taken(held, a, c) {
-        return Reply::Refused(WRONG_SLOT);
+        return Err(Refusal::WrongSlot);
     }
     if rows::taken(held, b, c) {
-        return Reply::Refused(WRONG_SLOT);
+        return Err(Refusal::WrongSlot);
     }
     if rows::stack_not_empty(held) {
-        return Reply::Refused(STACK_NOT_EMPTY);
+        return Err(Refusal::StackNotEmpty);
     }
-    Reply::Done
+    Ok(())
 }
 
-pub fn fork(held: Registers, c: Slot, a: Slot, first: Branch, b: Slot, second: Branch) -> Reply
+pub fn fork(
+    held: Registers,
+    c: Slot,
+    a: Slot,
+    first: Branch,
+    b: Slot,
+    second: Branch,
+) -> Result<(), Refusal>
     ensures { (g : Process) → RegistersWithin g → held ≡ registers_of g
-        → result ≡ own_reply g
+        → answer_of result ≡ own_reply g
         (fork_of (slot_number c) (slot_number a) first.set first.place (slot_number b) second.set second.place) }
 {
     if rows::wrong_slots(held, c, a, b) {
-        return Reply::Refused(WRONG_SLOT);
+        return Err(Refusal::WrongSlot);
     }
     if registers::in_set(first.set, a) {
-        return Reply::Refused(WRONG_SLOT);
+        return Err(Refusal::WrongSlot);
     }
     if registers::in_set(second.set, b) {
-        return Reply::Refused(WRONG_SLOT);
+        return Err(Refusal::WrongSlot);
     }
     if registers::overlap(first.set, second.set) {
-        return Reply::Refused(ENDS_LOST_OR_DOUBLED);
+        return Err(Refusal::EndsLostOrDoubled);
     }
     if rows::others_not_together(held, c, first.set, second.set) {
-        return Reply::Refused(ENDS_LOST_OR_DOUBLED);
+        return Err(Refusal::EndsLostOrDoubled);
     }
     if rows::stack_not_empty(held) {
-        return Reply::Refused(STACK_NOT_EMPTY);
+        return Err(Refusal::StackNotEmpty);
     }
-    Reply::Done
+    Ok(())
 }
 
-pub fn close(held: Registers, c: Slot) -> Reply
-    ensures { (g : Process) → RegistersWithin g → held ≡ registers_of g → result ≡ own_reply g (close_of (slot_number c)) }
+pub fn close(held: Registers, c: Slot) -> Result<(), Refusal>
+    ensures { (g : Process) → RegistersWithin g → held ≡ registers_of g → answer_of result ≡ own_reply g (close_of (slot_number c)) }
 {
     if rows::over(c) {
-        return Reply::Refused(WRONG_SLOT);
+        return Err(Refusal::WrongSlot);
     }
     if rows::empty(held, c) {
-        return Reply::Refused(WRONG_SLOT);
+        return Err(Refusal::WrongSlot);
     }
-    Reply::Done
+    Ok(())
 }
 
-pub fn halt(held: Registers, c: Slot) -> Reply
-    ensures { (g : Process) → RegistersWithin g → held ≡ registers_of g → result ≡ own_reply g (halt_of (slot_number c)) }
+pub fn halt(held: Registers, c: Slot) -> Result<(), Refusal>
+    ensures { (g : Process) → RegistersWithin g → held ≡ registers_of g → answer_of result ≡ own_reply g (halt_of (slot_number c)) }
 {
     if rows::over(c) {
-        return Reply::Refused(WRONG_SLOT);
+        return Err(Refusal::WrongSlot);
     }
     if rows::empty(held, c) {
-        return Reply::Refused(WRONG_SLOT);
+        return Err(Refusal::WrongSlot);
     }
     if rows::others_held(held, c) {
-        return Reply::Refused(ENDS_LOST_OR_DOUBLED);
+        return Err(Refusal::EndsLostOrDoubled);
     }
     if rows::stack_not_empty(held) {
-        return Reply::Refused(STACK_NOT_EMPTY);
+        return Err(Refusal::StackNotEmpty);
     }
-    Reply::Done
+    Ok(())
 }
 
 // Whatever handle is put.
-pub fn hput(held: Registers, c: Slot) -> Reply
-    ensures { (g : Process) (n : ℕ) → RegistersWithin g → held ≡ registers_of g → result ≡ own_reply g (hput_of (slot_number c) n) }
+pub fn hput(held: Registers, c: Slot) -> Result<(), Refusal>
+    ensures { (g : Process) (n : ℕ) → RegistersWithin g → held ≡ registers_of g → answer_of result ≡ own_reply g (hput_of (slot_number c) n) }
 {
     if rows::over(c) {
-        return Reply::Refused(WRONG_SLOT);
+        return Err(Refusal::WrongSlot);
     }
     if rows::empty(held, c) {
-        return Reply::Refused(WRONG_SLOT);
+        return Err(Refusal::WrongSlot);
     }
-    Reply::Done
+    Ok(())
 }
 
 // Whatever places are listed.
-pub fn hcase(held: Registers, c: Slot) -> Reply
+pub fn hcase(held: Registers, c: Slot) -> Result<(), Refusal>
     ensures { (g : Process) (places : List ℕ) → RegistersWithin g → held ≡ registers_of g
-        → result ≡ own_reply g (hcase_of (slot_number c) places) }
+        → answer_of result ≡ own_reply g (hcase_of (slot_number c) places) }
 {
     if rows::over(c) {
-        return Reply::Refused(WRONG_SLOT);
+        return Err(Refusal::WrongSlot);
     }
     if rows::empty(held, c) {
-        return Reply::Refused(WRONG_SLOT);
+        return Err(Refusal::WrongSlot);
     }
-    Reply::Done
+    Ok(())
 }

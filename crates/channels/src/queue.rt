@@ -7,18 +7,18 @@ ghost use Rattle.channels.specs.Appending.{HoldsEnd, Runs, Appended};
 
 use ends::Item;
 use registers::Registers;
-use rules::{QUEUE_DEPTH, QUEUE_FULL, Reply, Slot};
+use rules::{Refusal, Slot, QUEUE_DEPTH};
 
 // 13, or an item is appended to the queue of slot c's end.
-pub fn append(m: &mut [u8], held: Registers, c: Slot, item: Item) -> Reply
+pub fn append(m: &mut [u8], held: Registers, c: Slot, item: Item) -> Result<(), Refusal>
     requires { HoldsEnd m.old held (slot_number c) }
     ensures { (r : ℕ) (g : Process) → Runs m.old r held g (slot_number c)
         → Appended m.old g (slot_number c) (item_of item) result m.new }
 {
     let end = stepping::own_end(held, c);
     if QUEUE_DEPTH <= ends::queued(m, end) as usize {
-        return Reply::Refused(QUEUE_FULL);
+        return Err(Refusal::QueueFull);
     }
     ends::append(m, end, item);
-    Reply::Done
+    Ok(())
 }

@@ -8,71 +8,55 @@ ghost use Rattle.stepping.specs.Stepped.{Stepped};
 
 use crate::queue;
 use ends::Item;
-use rules::{Record, Reply, Slot};
+use rules::{Record, Refusal, Slot};
 
 // The top is popped and appended.
-pub fn put(m: &mut [u8], r: Record, c: Slot, next: u16) -> Reply
+pub fn put(m: &mut [u8], r: Record, c: Slot, next: u16) -> Result<(), Refusal>
     requires { SoundMemory m.old × (record_number r < record_count) }
     ensures { Stepped m.old (record_number r) next (put_of (slot_number c)) result m.new }
 {
     let held = registers::load(m, r);
-    if let Reply::Refused(n) = causes::put(held, c) {
-        return Reply::Refused(n);
-    }
+    causes::put(held, c)?;
     let popped = held.pop();
-    if let Reply::Refused(n) = queue::append(m, held, c, Item::Value(popped.value)) {
-        return Reply::Refused(n);
-    }
+    queue::append(m, held, c, Item::Value(popped.value))?;
     let rest = popped.registers;
     registers::save_running(m, r, rest.at(next));
-    Reply::Done
+    Ok(())
 }
 
 // The slot is emptied behind its close.
-pub fn close(m: &mut [u8], r: Record, c: Slot, next: u16) -> Reply
+pub fn close(m: &mut [u8], r: Record, c: Slot, next: u16) -> Result<(), Refusal>
     requires { SoundMemory m.old × (record_number r < record_count) }
     ensures { Stepped m.old (record_number r) next (close_of (slot_number c)) result m.new }
 {
     let held = registers::load(m, r);
-    if let Reply::Refused(n) = causes::close(held, c) {
-        return Reply::Refused(n);
-    }
-    if let Reply::Refused(n) = queue::append(m, held, c, Item::Close) {
-        return Reply::Refused(n);
-    }
+    causes::close(held, c)?;
+    queue::append(m, held, c, Item::Close)?;
     let emptied = held.empty_slot(c);
     registers::save_running(m, r, emptied.at(next));
-    Reply::Done
+    Ok(())
 }
 
 // The record is freed, so it goes on at no place: the contract says it for every `next`.
-pub fn halt(m: &mut [u8], r: Record, c: Slot) -> Reply
+pub fn halt(m: &mut [u8], r: Record, c: Slot) -> Result<(), Refusal>
     requires { SoundMemory m.old × (record_number r < record_count) }
     ensures { (next : ℕ) → Stepped m.old (record_number r) next (halt_of (slot_number c)) result m.new }
 {
     let held = registers::load(m, r);
-    if let Reply::Refused(n) = causes::halt(held, c) {
-        return Reply::Refused(n);
-    }
-    if let Reply::Refused(n) = queue::append(m, held, c, Item::Close) {
-        return Reply::Refused(n);
-    }
+    causes::halt(held, c)?;
+    queue::append(m, held, c, Item::Close)?;
     registers::clear(m, r);
-    Reply::Done
+    Ok(())
 }
 
 // A handle is appended.
-pub fn hput(m: &mut [u8], r: Record, c: Slot, n: u8, next: u16) -> Reply
+pub fn hput(m: &mut [u8], r: Record, c: Slot, n: u8, next: u16) -> Result<(), Refusal>
     requires { SoundMemory m.old × (record_number r < record_count) }
     ensures { Stepped m.old (record_number r) next (hput_of (slot_number c) n) result m.new }
 {
     let held = registers::load(m, r);
-    if let Reply::Refused(k) = causes::hput(held, c) {
-        return Reply::Refused(k);
-    }
-    if let Reply::Refused(k) = queue::append(m, held, c, Item::Handle(n)) {
-        return Reply::Refused(k);
-    }
+    causes::hput(held, c)?;
+    queue::append(m, held, c, Item::Handle(n))?;
     registers::save_running(m, r, held.at(next));
-    Reply::Done
+    Ok(())
 }

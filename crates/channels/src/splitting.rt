@@ -21,7 +21,7 @@ ghost use Rattle.channels.specs.Splitting.{FourWithin, SharedStep};
 use ends::word::FourEnds;
 use ends::{Item, word};
 use registers::Registers;
-use rules::{End, NONE_FREE, QUEUE_DEPTH, QUEUE_FULL, Record, Reply, Slot};
+use rules::{End, Record, Refusal, Slot, QUEUE_DEPTH};
 
 // The split is appended to an end's queue, and four free ends become two pairs.
 fn split_ends(m: &mut [u8], end: End, new: FourEnds)
@@ -61,7 +61,7 @@ fn split_registers(
 }
 
 // 13, 15, or the state after a split whose rows 5 to 11 do not hold.
-fn split_at(m: &mut [u8], r: Record, held: Registers, c: Slot, a: Slot, b: Slot, next: u16) -> Reply
+fn split_at(m: &mut [u8], r: Record, held: Registers, c: Slot, a: Slot, b: Slot, next: u16) -> Result<(), Refusal>
     requires holds_end { HoldsEnd m.old held (slot_number c) }
     requires r_bound { record_number r < record_count }
     ensures { (g : Process) → Runs m.old (record_number r) held g (slot_number c)
@@ -69,26 +69,24 @@ fn split_at(m: &mut [u8], r: Record, held: Registers, c: Slot, a: Slot, b: Slot,
 {
     let end = stepping::own_end(held, c);
     if QUEUE_DEPTH <= ends::queued(m, end) as usize {
-        return Reply::Refused(QUEUE_FULL);
+        return Err(Refusal::QueueFull);
     }
     let free = ends::free_word(m);
     if word::count(free) < 4 {
-        return Reply::Refused(NONE_FREE);
+        return Err(Refusal::NoneFree);
     }
     let new = word::four_lowest(free);
     split_ends(m, end, new);
     registers::save_running(m, r, split_registers(held, c, a, new.p, b, new.s, next));
-    Reply::Done
+    Ok(())
 }
 
-pub fn split(m: &mut [u8], r: Record, c: Slot, a: Slot, b: Slot, next: u16) -> Reply
+pub fn split(m: &mut [u8], r: Record, c: Slot, a: Slot, b: Slot, next: u16) -> Result<(), Refusal>
     requires { SoundMemory m.old × (record_number r < record_count) }
     ensures { Stepped m.old (record_number r) next (split_of (slot_number c) (slot_number a) (slot_number b)) result
         m.new }
 {
     let held = registers::load(m, r);
-    if let Reply::Refused(n) = causes::split(held, c, a, b) {
-        return Reply::Refused(n);
-    }
+    causes::split(held, c, a, b)?;
     split_at(m, r, held, c, a, b, next)
 }

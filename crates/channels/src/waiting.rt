@@ -13,43 +13,37 @@ use crate::queue;
 use code::Branch;
 use ends::Item;
 use registers::Registers;
-use rules::{Record, Reply, Slot};
+use rules::{Record, Refusal, Slot};
 
 // 13, or record r waits on the queue of slot c's end.
-fn wait_at(m: &mut [u8], r: Record, held: Registers, c: Slot) -> Reply
+fn wait_at(m: &mut [u8], r: Record, held: Registers, c: Slot) -> Result<(), Refusal>
     requires holds_end { HoldsEnd m.old held (slot_number c) }
     requires r_bound { record_number r < record_count }
     ensures { (g : Process) → Runs m.old (record_number r) held g (slot_number c)
         → Waited m.old (record_number r) g (slot_number c) result m.new }
 {
-    if let Reply::Refused(n) = queue::append(m, held, c, Item::Wait(r)) {
-        return Reply::Refused(n);
-    }
+    queue::append(m, held, c, Item::Wait(r))?;
     registers::save_waiting(m, r, held);
-    Reply::Done
+    Ok(())
 }
 
-pub fn get(m: &mut [u8], r: Record, c: Slot) -> Reply
+pub fn get(m: &mut [u8], r: Record, c: Slot) -> Result<(), Refusal>
     requires { SoundMemory m.old × (record_number r < record_count) }
     ensures { (next : ℕ) → Stepped m.old (record_number r) next (get_of (slot_number c)) result m.new }
 {
     let held = registers::load(m, r);
-    if let Reply::Refused(n) = causes::get(held, c) {
-        return Reply::Refused(n);
-    }
+    causes::get(held, c)?;
     wait_at(m, r, held, c)
 }
 
 // Whatever places are listed.
-pub fn hcase(m: &mut [u8], r: Record, c: Slot) -> Reply
+pub fn hcase(m: &mut [u8], r: Record, c: Slot) -> Result<(), Refusal>
     requires { SoundMemory m.old × (record_number r < record_count) }
     ensures { (next : ℕ) (places : List ℕ)
         → Stepped m.old (record_number r) next (hcase_of (slot_number c) places) result m.new }
 {
     let held = registers::load(m, r);
-    if let Reply::Refused(n) = causes::hcase(held, c) {
-        return Reply::Refused(n);
-    }
+    causes::hcase(held, c)?;
     wait_at(m, r, held, c)
 }
 
@@ -61,15 +55,13 @@ pub fn fork(
     first: Branch,
     b: Slot,
     second: Branch,
-) -> Reply
+) -> Result<(), Refusal>
     requires { SoundMemory m.old × (record_number r < record_count) }
     ensures { (next : ℕ) → Stepped m.old (record_number r) next
         (fork_of (slot_number c) (slot_number a) first.set first.place (slot_number b) second.set second.place)
         result m.new }
 {
     let held = registers::load(m, r);
-    if let Reply::Refused(n) = causes::fork(held, c, a, first, b, second) {
-        return Reply::Refused(n);
-    }
+    causes::fork(held, c, a, first, b, second)?;
     wait_at(m, r, held, c)
 }

@@ -6,9 +6,11 @@ use native.Mathlib.Omega.{arith}
 use lib.ListN.{length}
 use Rattle.rules.specs.Refusal.{Answer, refused, done}
 use Rattle.rules.specs.Image.{blocks_in, code_length, code_in, read_image}
-use Rattle.image.specs.declared.Found.{Found}
-use Rattle.image.specs.declared.Found.TheVariants.{Code, Refused}
-use Rattle.image.specs.Answers.{found_answer, length_read}
+use Rattle.std.specs.Prelude.{Result}
+use Rattle.rules.specs.declared.Refusal.{Refusal}
+use Rattle.rules.specs.Numbers.{answer_of}
+use Rattle.rules.proofs.Promises.{same_answer}
+use Rattle.image.specs.Answers.{length_read}
 use Rattle.image.proofs.Data.{code_size}
 use Rattle.image.proofs.Right.{right_of, reads}
 use Rattle.image.proofs.Copies.{ends}
@@ -36,9 +38,6 @@ found_refused image n e = go (read_image image) e
     go (refused k) z = cc
     go (done code) z = absurd (let i : ◌≡◌ {A = ℕ} 0 1 = cc in omega arith)
 
--- two answers that stand for the same are equal
-pub found_once : (a b : Found) → found_answer a ≡ found_answer b → a ≡ b
-found_once (Code n) (Code k) e = let z : n ≡ k = cc in ap Code z
-found_once (Refused n) (Refused k) e = let z : n ≡ k = cc in ap Refused z
-found_once (Code n) (Refused k) e = absurd (let i : ◌≡◌ {A = ℕ} 0 1 = cc in omega arith)
-found_once (Refused n) (Code k) e = absurd (let i : ◌≡◌ {A = ℕ} 0 1 = cc in omega arith)
+-- two answers of `read` that say the same are equal
+pub found_once : (a b : Result ℕ Refusal) → answer_of a ≡ answer_of b → a ≡ b
+found_once a b e = same_answer a b e

@@ -14,7 +14,6 @@ use Rattle.rules.specs.Bytes.{table, pad}
 use Rattle.rules.specs.Limits.{code_limit}
 use Rattle.rules.specs.Refusal.{refused, done, unless}
 use Rattle.rules.specs.Calls.{write, write_answer}
-use Rattle.rules.specs.declared.Reply.TheVariants.{Done, Refused}
 use Rattle.rules.specs.Numbers.{reply_to}
 use Rattle.rules.specs.Image.{block_size, data_size, head_size, block_limit, check_of, headed, block}
 use Rattle.rules.specs.Image.{blocks, block_count, image_of, write_causes, written}
@@ -130,13 +129,13 @@ few_blocks L h = omega arith
 
 module _ (code out : List ℕ) where
   pub write_refused : {n : ℕ} → write_answer code out ≡ refused n
-      → (n ≡ (write code out).number) × ((out ≡ (write code out).memory) × (Refused n ≡ reply_to (write_answer code out)))
+      → (n ≡ (write code out).number) × ((out ≡ (write code out).memory) × (refused n ≡ reply_to (write_answer code out)))
   unfolding write
   write_refused e = (rw e, (rw e, rw e))
 
   -- with the blocks as the code counts and writes them
   pub write_done : {n : ℕ} {m : List ℕ} → Passed (write_causes code out) (done (written code out)) 3 → n ≡ block_count (length code)
       → m ≡ blocks n (pad (data_size * n) 0 (headed code)) ++ drop (block_size * n) out
-      → (0 ≡ (write code out).number) × ((m ≡ (write code out).memory) × (Done ≡ reply_to (write_answer code out)))
+      → (0 ≡ (write code out).number) × ((m ≡ (write code out).memory) × (done tt ≡ reply_to (write_answer code out)))
   unfolding write write_answer write_causes written image_of unless
   write_done p c e = (rw p.left, (rw p.left (e ∙ rw c), rw p.left))

@@ -12,61 +12,53 @@ ghost use Rattle.rules.specs.Refusal.{done};
 ghost use Rattle.rules.specs.Calls.{write, write_answer};
 ghost use Rattle.rules.specs.Image.{read_image, code_length, code_in};
 ghost use Rattle.words.specs.Parts.{put_at};
-ghost use Rattle.rules.specs.Numbers.{reply_number, reply_to};
-ghost use Rattle.image.specs.Answers.{found_answer, length_read};
+ghost use Rattle.rules.specs.Numbers.{answer_of, reply_number, reply_to};
+ghost use Rattle.image.specs.Answers.{length_read};
 
 pub use block::{BLOCK_LIMIT, BLOCK_SIZE, block_count};
 use block::{DATA_SIZE, HEAD_SIZE};
-use rules::{BLOCK_CHECK, CODE_LENGTH, CODE_LIMIT, IMAGE_LENGTH, OUTPUT_SHORT, Reply};
-
-// What the reader finds.
-#[derive(Clone, Copy)]
-pub enum Found {
-    // A right image: the length of its code. The code stands behind the head, with the two bytes of a check behind each 510 of data.
-    Code { length: usize },
-    // One of document 01's numbers.
-    Refused(u8),
-}
+use rules::{CODE_LIMIT, Refusal};
 
 // The image of a code goes to the front of `out`: done, or 26, 27 with `out` as it was. What stands past the blocks is kept. The clause
-// `reply` says more than `number` in one point: a write that is done is not answered by `Refused(0)`.
-pub fn write(code: &[u8], out: &mut [u8]) -> Reply
+// `reply` says which refusal it is.
+pub fn write(code: &[u8], out: &mut [u8]) -> Result<(), Refusal>
     ensures number { reply_number result ≡ (write code.now out.old).number }
     ensures memory { out.new ≡ (write code.now out.old).memory }
-    ensures reply { result ≡ reply_to (write_answer code.now out.old) }
+    ensures reply { answer_of result ≡ reply_to (write_answer code.now out.old) }
 {
     let length = code.len();
     let count = block_count(length);
     let size = BLOCK_SIZE * count;
     if length == 0 {
-        return Reply::Refused(CODE_LENGTH); // no code
+        return Err(Refusal::CodeLength); // no code
     }
     if CODE_LIMIT < length {
-        return Reply::Refused(CODE_LENGTH); // too much code
+        return Err(Refusal::CodeLength); // too much code
     }
     if out.len() < size {
-        return Reply::Refused(OUTPUT_SHORT);
+        return Err(Refusal::OutputShort);
     }
     writing::write_blocks(code, out, count);
-    Reply::Done
+    Ok(())
 }
 
-// Where the code of an image stands and how long it is, or 20, 21, 22, 23, in that order.
-pub fn read(image: &[u8]) -> Found
-    ensures { found_answer result ≡ length_read (read_image image.now) }
+// How long the code of a right image is, or 20, 21, 22, 23, in that order. The code stands behind the head, with the two bytes of a check
+// behind each 510 of data.
+pub fn read(image: &[u8]) -> Result<usize, Refusal>
+    ensures { answer_of result ≡ length_read (read_image image.now) }
 {
     let count = image.len() / BLOCK_SIZE;
     if BLOCK_SIZE * count != image.len() {
-        return Found::Refused(IMAGE_LENGTH);
+        return Err(Refusal::ImageLength);
     }
     if count == 0 {
-        return Found::Refused(IMAGE_LENGTH);
+        return Err(Refusal::ImageLength);
     }
     if BLOCK_LIMIT < count {
-        return Found::Refused(IMAGE_LENGTH);
+        return Err(Refusal::ImageLength);
     }
     if reading::any_check_wrong(image, count) {
-        return Found::Refused(BLOCK_CHECK);
+        return Err(Refusal::BlockCheck);
     }
     reading::read_data(image, count)
 }

@@ -3,11 +3,11 @@ ghost use Rattle.std.specs.Prelude.{◌≡◌, ◌*◌, ◌≤◌, ◌<◌, leng
 ghost use Rattle.words.specs.Parts.{high_at};
 ghost use Rattle.rules.specs.Refusal.{done, unless};
 ghost use Rattle.rules.specs.Image.{block_size, code_in, read_causes, any_check_wrong, any_nonzero};
-ghost use Rattle.image.specs.Answers.{found_answer, length_read};
+ghost use Rattle.rules.specs.Numbers.{answer_of};
+ghost use Rattle.image.specs.Answers.{length_read};
 
-use crate::Found;
 use crate::block::{BLOCK_SIZE, HEAD_SIZE};
-use rules::{CODE_LIMIT, IMAGE_HEAD, NONZERO_AFTER_CODE};
+use rules::{CODE_LIMIT, Refusal};
 
 // Some of the first `count` blocks has another check than its data's.
 pub fn any_check_wrong(image: &[u8], count: usize) -> bool
@@ -48,32 +48,32 @@ pub fn code_length(image: &[u8]) -> usize
 }
 
 // 22 and 23 of an image of `count` whole blocks.
-pub fn read_data(image: &[u8], count: usize) -> Found
+pub fn read_data(image: &[u8], count: usize) -> Result<usize, Refusal>
     requires whole_blocks { block_size * count ≡ length image.now }
     requires count_nonzero { 0 < count }
-    ensures { found_answer result
+    ensures { answer_of result
         ≡ length_read (unless (drop 4 (read_causes image.now)) (done (code_in image.now))) }
 {
     if image[0] != 1 {
-        return Found::Refused(IMAGE_HEAD);
+        return Err(Refusal::ImageHead);
     }
     if image[1] != 0 {
-        return Found::Refused(IMAGE_HEAD);
+        return Err(Refusal::ImageHead);
     }
     let length = code_length(image);
     if length == 0 {
-        return Found::Refused(IMAGE_HEAD);
+        return Err(Refusal::ImageHead);
     }
     if CODE_LIMIT < length {
-        return Found::Refused(IMAGE_HEAD);
+        return Err(Refusal::ImageHead);
     }
     if crate::block::block_count(length) != count {
-        return Found::Refused(IMAGE_HEAD);
+        return Err(Refusal::ImageHead);
     }
     // the code ends in the last block, behind the checks of those before
     let end = HEAD_SIZE + length + 2 * (count - 1);
     if any_nonzero(&image[end..image.len() - 2]) {
-        return Found::Refused(NONZERO_AFTER_CODE);
+        return Err(Refusal::NonzeroAfterCode);
     }
-    Found::Code { length }
+    Ok(length)
 }

@@ -14,7 +14,6 @@ use Rattle.rules.specs.Layout.{state_size, layout}
 use Rattle.rules.specs.Calls.{load_answer, load}
 use Rattle.rules.specs.Numbers.{reply_to}
 use Rattle.rules.specs.Promise.{Promise}
-use Rattle.rules.specs.declared.Reply.TheVariants.{Done, Refused}
 use Rattle.words.specs.Parts.{put_at}
 use Rattle.image.proofs.Data.{code_size}
 use Rattle.image.proofs.Right.{right_of}
@@ -37,17 +36,17 @@ installed image n e long =
     ∙ code_written (code_in image) (rw l.0 l.1)
 
 module _ (m image : List ℕ) where
-  pub length_wrong : length m ≢ state_size → Promise (reply_to (load_answer m image)) (load m image).memory (Refused 24) m
+  pub length_wrong : length m ≢ state_size → Promise (reply_to (load_answer m image)) (load m image).memory (refused 24) m
   unfolding load_answer load unless
   length_wrong h = rw (ne_eqb (length m) state_size h) (record { answer_is = refl; memory_is = refl })
 
   pub image_refused : (n : ℕ) → length m ≡ state_size → read_image image ≡ refused n
-      → Promise (reply_to (load_answer m image)) (load m image).memory (Refused n) m
+      → Promise (reply_to (load_answer m image)) (load m image).memory (refused n) m
   unfolding load_answer load unless
   image_refused n h e = rw (eq-eqb (length m) state_size h, e) (record { answer_is = refl; memory_is = refl })
 
   pub image_loaded : (left : List ℕ) → length m ≡ state_size → read_image image ≡ done (code_in image)
       → left ≡ layout (start (code_in image))
-      → Promise (reply_to (load_answer m image)) (load m image).memory Done left
+      → Promise (reply_to (load_answer m image)) (load m image).memory (done tt) left
   unfolding load_answer load unless
   image_loaded left h e q = rw (eq-eqb (length m) state_size h, e) (record { answer_is = refl; memory_is = q })

@@ -10,12 +10,11 @@ ghost use Rattle.rules.specs.Refusal.{done};
 ghost use Rattle.rules.specs.Image.{read_image, code_length, code_in};
 ghost use Rattle.rules.specs.Layout.{state_size, layout};
 ghost use Rattle.rules.specs.Calls.{load_answer, load as load_of};
-ghost use Rattle.rules.specs.Numbers.{reply_to};
+ghost use Rattle.rules.specs.Numbers.{answer_of, reply_to};
 ghost use Rattle.rules.specs.Promise.{Promise};
 
-use image::Found;
+use rules::Refusal;
 use rules::offsets::{CODE_AT, STATE_SIZE};
-use rules::{Reply, STATE_LENGTH};
 
 // The start state with the code of an image that reads.
 fn install(state: &mut [u8], image: &[u8], length: usize)
@@ -29,18 +28,14 @@ fn install(state: &mut [u8], image: &[u8], length: usize)
 }
 
 // 24, then 20 to 23; done, the memory holds the start state and the code.
-pub fn load(state: &mut [u8], image: &[u8]) -> Reply
+pub fn load(state: &mut [u8], image: &[u8]) -> Result<(), Refusal>
     ensures { Promise (reply_to (load_answer state.old image.now))
-        (load_of state.old image.now).memory result state.new }
+        (load_of state.old image.now).memory (answer_of result) state.new }
 {
     if state.len() != STATE_SIZE {
-        return Reply::Refused(STATE_LENGTH);
+        return Err(Refusal::StateLength);
     }
-    match image::read(image) {
-        Found::Refused(n) => Reply::Refused(n),
-        Found::Code { length } => {
-            install(state, image, length);
-            Reply::Done
-        }
-    }
+    let length = image::read(image)?;
+    install(state, image, length);
+    Ok(())
 }

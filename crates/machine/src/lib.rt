@@ -12,7 +12,7 @@ ghost use Rattle.machine.specs.Answers.{sound_reply, free_answer};
 use ends::word::{count, lowest};
 pub use loading::load;
 use rules::offsets::STATE_SIZE;
-use rules::{Reply, STATE_LENGTH, UNSOUND};
+use rules::{Refusal};
 
 // How many ends are free, and the lowest of them (64 with none free), or one of document 01's numbers.
 #[derive(Clone, Copy)]
@@ -22,38 +22,34 @@ pub enum FreeEnds {
 }
 
 // 24, then 1; done where the memory is the layout of a sound state.
-pub fn tested(state: &[u8]) -> Reply
+pub fn tested(state: &[u8]) -> Result<(), Refusal>
     ensures { result ≡ sound_reply state.now }
 {
     if state.len() != STATE_SIZE {
-        return Reply::Refused(STATE_LENGTH);
+        return Err(Refusal::StateLength);
     }
     if !soundness::is_sound(state) {
-        return Reply::Refused(UNSOUND);
+        return Err(Refusal::Unsound);
     }
-    Reply::Done
+    Ok(())
 }
 
 // A record is asked to step: 24, 1, 2 to 15, or done. Any number may be asked.
-pub fn ask_record(state: &mut [u8], record: u32) -> Reply
+pub fn ask_record(state: &mut [u8], record: u32) -> Result<(), Refusal>
     ensures { Promise (reply_to (record_answer state.old «record»)) (call_record state.old «record»).memory
         result state.new }
 {
-    if let Reply::Refused(n) = tested(state) {
-        return Reply::Refused(n);
-    }
+    tested(state)?;
     let lengths = code::length_table();
     asking::step_record(state, &lengths, record)
 }
 
 // An end is asked to step: 24, 1, 16 to 19, or done. Any number may be asked.
-pub fn ask_end(state: &mut [u8], end: u32) -> Reply
+pub fn ask_end(state: &mut [u8], end: u32) -> Result<(), Refusal>
     ensures { Promise (reply_to (end_answer state.old end)) (call_end state.old end).memory
         result state.new }
 {
-    if let Reply::Refused(n) = tested(state) {
-        return Reply::Refused(n);
-    }
+    tested(state)?;
     let lengths = code::length_table();
     asking::step_end(state, &lengths, end)
 }

@@ -18,14 +18,14 @@ ghost use Rattle.meetings.specs.Stepped.{Met, EndStepped};
 
 use ends::{Head, Item};
 use heads::{Meeting, meeting_of};
-use rules::{END_COUNT, End, HEADS_MISMATCH, NO_END, QUEUE_EMPTY, Reply};
+use rules::{End, Refusal, END_COUNT};
 
 mod heads; // heads.rt: what the heads of two queues make
 mod wanted; // wanted.rt: what a waiting record wants
 mod steps; // steps.rt: a datum delivered, a split divided, two closes
 
 // Two items at the heads of e and f: 18, 19, or the step.
-fn meet(m: &mut [u8], lengths: &[u8; 256], e: End, f: End, x: Item, y: Item) -> Reply
+fn meet(m: &mut [u8], lengths: &[u8; 256], e: End, f: End, x: Item, y: Item) -> Result<(), Refusal>
     requires sound_memory { SoundMemory m.old × (lengths.now ≡ lengths_of_rules) × (end_number e < end_count) × (end_number f < end_count) }
     requires heads { (head_of (end_at (view m.old) (end_number e)) ≡ some (item_of x))
         × (head_of (end_at (view m.old) (end_number f)) ≡ some (item_of y)) }
@@ -33,7 +33,7 @@ fn meet(m: &mut [u8], lengths: &[u8; 256], e: End, f: End, x: Item, y: Item) -> 
         (meet_heads (view m.old) (end_number e) (end_number f) (some (item_of x)) (some (item_of y))) result m.new }
 {
     match meeting_of(e, f, x, y) {
-        Meeting::Mismatch => Reply::Refused(HEADS_MISMATCH),
+        Meeting::Mismatch => Err(Refusal::HeadsMismatch),
         Meeting::Delivers {
             from,
             to,
@@ -50,23 +50,23 @@ fn meet(m: &mut [u8], lengths: &[u8; 256], e: End, f: End, x: Item, y: Item) -> 
 }
 
 // An end is asked to step: 16, 17, 18, 19, or the step. Any number may be asked.
-pub fn step_end(m: &mut [u8], lengths: &[u8; 256], end: u32) -> Reply
+pub fn step_end(m: &mut [u8], lengths: &[u8; 256], end: u32) -> Result<(), Refusal>
     requires { SoundMemory m.old × (lengths.now ≡ lengths_of_rules) }
     ensures { EndStepped m.old end result m.new }
 {
     if END_COUNT as u32 <= end {
-        return Reply::Refused(NO_END);
+        return Err(Refusal::NoEnd);
     }
     let e = End(end as u8);
     if ends::is_free(m, e) {
-        return Reply::Refused(NO_END);
+        return Err(Refusal::NoEnd);
     }
     let f = ends::partner(m, e);
     let Head::Item(x) = ends::head(m, e) else {
-        return Reply::Refused(QUEUE_EMPTY);
+        return Err(Refusal::QueueEmpty);
     };
     let Head::Item(y) = ends::head(m, f) else {
-        return Reply::Refused(QUEUE_EMPTY);
+        return Err(Refusal::QueueEmpty);
     };
     meet(m, lengths, e, f, x, y)
 }

@@ -17,7 +17,7 @@ ghost use Rattle.meetings.specs.Stepped.{Met, DatumMet, SplitMet};
 use crate::heads::Datum;
 use crate::wanted::{Wanted, wanted_at};
 use registers::Registers;
-use rules::{End, HEADS_MISMATCH, NO_RECORD_FOR_FORK, RECORD_COUNT, Record, Reply};
+use rules::{End, Record, Refusal, RECORD_COUNT};
 
 // Both heads are removed, and record r runs with these registers.
 fn take_both(m: &mut [u8], from: End, to: End, r: Record, x: Registers)
@@ -35,36 +35,36 @@ fn take_both(m: &mut [u8], from: End, to: End, r: Record, x: Registers)
 }
 
 // A value against a get: the record runs on after the get, value pushed.
-fn deliver_value(m: &mut [u8], lengths: &[u8; 256], from: End, to: End, v: i32, r: Record) -> Reply
+fn deliver_value(m: &mut [u8], lengths: &[u8; 256], from: End, to: End, v: i32, r: Record) -> Result<(), Refusal>
     requires sound_memory { SoundMemory m.old × (lengths.now ≡ lengths_of_rules) }
     requires datum_waits { DatumWaits (view m.old) (end_number from) (end_number to) (value v) (record_number r) }
     ensures { DatumMet m.old (end_number from) (end_number to) (record_number r) (value v) result m.new }
 {
     let held = registers::load(m, r);
     let Wanted::Value(next) = wanted_at(m, lengths, held.place) else {
-        return Reply::Refused(HEADS_MISMATCH);
+        return Err(Refusal::HeadsMismatch);
     };
     let pushed = held.push(v);
     take_both(m, from, to, r, pushed.at(next));
-    Reply::Done
+    Ok(())
 }
 
 // A handle n against an hcase of k places with n < k: the record runs at place n.
-fn deliver_handle(m: &mut [u8], lengths: &[u8; 256], from: End, to: End, n: u8, r: Record) -> Reply
+fn deliver_handle(m: &mut [u8], lengths: &[u8; 256], from: End, to: End, n: u8, r: Record) -> Result<(), Refusal>
     requires sound_memory { SoundMemory m.old × (lengths.now ≡ lengths_of_rules) }
     requires datum_waits { DatumWaits (view m.old) (end_number from) (end_number to) (handle n) (record_number r) }
     ensures { DatumMet m.old (end_number from) (end_number to) (record_number r) (handle n) result m.new }
 {
     let held = registers::load(m, r);
     let Wanted::Handle(k) = wanted_at(m, lengths, held.place) else {
-        return Reply::Refused(HEADS_MISMATCH);
+        return Err(Refusal::HeadsMismatch);
     };
     if k <= n {
-        return Reply::Refused(HEADS_MISMATCH);
+        return Err(Refusal::HeadsMismatch);
     }
     let place = code::case_place(stepping::code(m), held.place as usize, n);
     take_both(m, from, to, r, held.at(place));
-    Reply::Done
+    Ok(())
 }
 
 // The datum at the head of `from` meets the wait of record r at the head of `to`.
@@ -75,7 +75,7 @@ pub fn deliver(
     to: End,
     datum: Datum,
     r: Record,
-) -> Reply
+) -> Result<(), Refusal>
     requires sound_memory { SoundMemory m.old × (lengths.now ≡ lengths_of_rules) }
     requires datum_waits { DatumWaits (view m.old) (end_number from) (end_number to) (datum_of datum) (record_number r) }
     ensures { DatumMet m.old (end_number from) (end_number to) (record_number r) (datum_of datum)
@@ -121,7 +121,7 @@ pub fn divide(
     first: End,
     second: End,
     r: Record,
-) -> Reply
+) -> Result<(), Refusal>
     requires sound_memory { SoundMemory m.old × (lengths.now ≡ lengths_of_rules) × (end_number e < end_count) × (end_number f < end_count) }
     requires no_data { NoData (view m.old) (end_number e) (end_number f)
         × SplitWaits (view m.old) (end_number first) (end_number second) (record_number r) }
@@ -136,24 +136,24 @@ pub fn divide(
         second: two,
     } = wanted_at(m, lengths, held.place)
     else {
-        return Reply::Refused(HEADS_MISMATCH);
+        return Err(Refusal::HeadsMismatch);
     };
     let new = registers::lowest_free_record(m);
     if RECORD_COUNT as u8 <= new.0 {
-        return Reply::Refused(NO_RECORD_FOR_FORK);
+        return Err(Refusal::NoRecordForFork);
     }
     let x = held.branch(a, one.set, one.place, first);
     let y = held.branch(b, two.set, two.place, second);
     free_and_run(m, e, f, r, x, new, y);
-    Reply::Done
+    Ok(())
 }
 
 // Close against close: both ends become free.
-pub fn close(m: &mut [u8], e: End, f: End) -> Reply
+pub fn close(m: &mut [u8], e: End, f: End) -> Result<(), Refusal>
     requires sound_memory { SoundMemory m.old × (end_number e < end_count) × (end_number f < end_count) }
     requires no_data { NoData (view m.old) (end_number e) (end_number f) }
     ensures { Met m.old (end_number e) (end_number f) closes result m.new }
 {
     free_both(m, e, f);
-    Reply::Done
+    Ok(())
 }

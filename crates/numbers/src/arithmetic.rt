@@ -16,7 +16,7 @@ ghost use Rattle.numbers.specs.Checked.{made_of, makes, checked};
 
 use crate::wide::{at_most, is_outside, narrow, product, sum};
 use registers::Registers;
-use rules::{FEW_VALUES, OUTSIDE, Record, Reply};
+use rules::{Record, Refusal};
 
 // What is made of the two values on top.
 #[derive(Clone, Copy)]
@@ -50,46 +50,46 @@ fn combine(m: &mut [u8], r: Record, held: Registers, v: i32, next: u16)
 }
 
 // The same, or 9 where v is outside 32 bits.
-fn combine_checked(m: &mut [u8], r: Record, held: Registers, v: i64, next: u16) -> Reply
+fn combine_checked(m: &mut [u8], r: Record, held: Registers, v: i64, next: u16) -> Result<(), Refusal>
     requires { (length m.old ≡ state_size) × (record_number r < record_count) × (1 < held.stack_count) }
     ensures { (st : State) (g : Process) → Sized st → m.old ≡ layout st → length g.stack ≤ stack_depth
         → held ≡ registers_of g → Promise (reply_to (checked st (record_number r) next g v))
         (layout_or m.old (checked st (record_number r) next g v)) result m.new }
 {
     if is_outside(v) {
-        return Reply::Refused(OUTSIDE);
+        return Err(Refusal::Outside);
     }
     combine(m, r, held, narrow(v), next);
-    Reply::Done
+    Ok(())
 }
 
 // Two values are popped, and what is made of them is pushed: 5, 9, or the step.
-fn make(m: &mut [u8], r: Record, made: Made, next: u16) -> Reply
+fn make(m: &mut [u8], r: Record, made: Made, next: u16) -> Result<(), Refusal>
     requires { SoundMemory m.old × (record_number r < record_count) }
     ensures { Stepped m.old (record_number r) next (makes made) result m.new }
 {
     let held = registers::load(m, r);
     if held.stack_count < 2 {
-        return Reply::Refused(FEW_VALUES);
+        return Err(Refusal::FewValues);
     }
     combine_checked(m, r, held, value_of(made, held), next)
 }
 
-pub fn add(m: &mut [u8], r: Record, next: u16) -> Reply
+pub fn add(m: &mut [u8], r: Record, next: u16) -> Result<(), Refusal>
     requires { SoundMemory m.old × (record_number r < record_count) }
     ensures { Stepped m.old (record_number r) next add_of result m.new }
 {
     make(m, r, Made::Sum, next)
 }
 
-pub fn mul(m: &mut [u8], r: Record, next: u16) -> Reply
+pub fn mul(m: &mut [u8], r: Record, next: u16) -> Result<(), Refusal>
     requires { SoundMemory m.old × (record_number r < record_count) }
     ensures { Stepped m.old (record_number r) next mul_of result m.new }
 {
     make(m, r, Made::Product, next)
 }
 
-pub fn leq(m: &mut [u8], r: Record, next: u16) -> Reply
+pub fn leq(m: &mut [u8], r: Record, next: u16) -> Result<(), Refusal>
     requires { SoundMemory m.old × (record_number r < record_count) }
     ensures { Stepped m.old (record_number r) next leq_of result m.new }
 {

@@ -11,56 +11,56 @@ ghost use Rattle.keeping.specs.Demand3.{SoundMemory};
 ghost use Rattle.stepping.specs.Stepped.{Stepped};
 
 pub use arithmetic::{add, leq, mul};
-use rules::{FEW_VALUES, NO_ENVIRONMENT_PLACE, Record, Reply, TOO_MANY_VALUES};
+use rules::{Record, Refusal};
 
 mod arithmetic;
 mod wide;
 
 // v is pushed.
-pub fn cst(m: &mut [u8], r: Record, v: i32, next: u16) -> Reply
+pub fn cst(m: &mut [u8], r: Record, v: i32, next: u16) -> Result<(), Refusal>
     requires { SoundMemory m.old × (record_number r < record_count) }
     ensures { Stepped m.old (record_number r) next (cst_of v) result m.new }
 {
     let held = registers::load(m, r);
     if 16 <= held.stack_count {
-        return Reply::Refused(TOO_MANY_VALUES);
+        return Err(Refusal::TooManyValues);
     }
     let pushed = held.push(v);
     registers::save_running(m, r, pushed.at(next));
-    Reply::Done
+    Ok(())
 }
 
 // Environment value n, counted from the newest, is pushed. It is read straight from the memory.
-pub fn access(m: &mut [u8], r: Record, n: u8, next: u16) -> Reply
+pub fn access(m: &mut [u8], r: Record, n: u8, next: u16) -> Result<(), Refusal>
     requires { SoundMemory m.old × (record_number r < record_count) }
     ensures { Stepped m.old (record_number r) next (access_of n) result m.new }
 {
     let held = registers::load(m, r);
     if 16 <= held.stack_count {
-        return Reply::Refused(TOO_MANY_VALUES);
+        return Err(Refusal::TooManyValues);
     }
     if held.environment_count <= n {
-        return Reply::Refused(NO_ENVIRONMENT_PLACE);
+        return Err(Refusal::NoEnvironmentPlace);
     }
     let v = registers::environment_value(m, r, n);
     let pushed = held.push(v);
     registers::save_running(m, r, pushed.at(next));
-    Reply::Done
+    Ok(())
 }
 
 // The top goes to the front of the environment.
-pub fn store(m: &mut [u8], r: Record, next: u16) -> Reply
+pub fn store(m: &mut [u8], r: Record, next: u16) -> Result<(), Refusal>
     requires { SoundMemory m.old × (record_number r < record_count) }
     ensures { Stepped m.old (record_number r) next store_of result m.new }
 {
     let held = registers::load(m, r);
     if held.stack_count < 1 {
-        return Reply::Refused(FEW_VALUES);
+        return Err(Refusal::FewValues);
     }
     if 16 <= held.environment_count {
-        return Reply::Refused(TOO_MANY_VALUES);
+        return Err(Refusal::TooManyValues);
     }
     let stored = held.store();
     registers::save_running(m, r, stored.at(next));
-    Reply::Done
+    Ok(())
 }

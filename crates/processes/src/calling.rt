@@ -13,7 +13,7 @@ ghost use Rattle.causes.specs.Own.{own_reply};
 ghost use Rattle.stepping.specs.Stepped.{Stepped, RunsAt};
 
 use registers::Registers;
-use rules::{Record, Reply};
+use rules::{Record, Refusal};
 
 // The length of the fixed part.
 const FIXED_SIZE: usize = 5;
@@ -29,7 +29,7 @@ fn listed(m: &[u8], at: usize, j: u8) -> &[u8]
 }
 
 // 5, 8 or 10, or nothing to refuse.
-fn refusal(m: &[u8], held: Registers, at: usize, n: u8, j: u8) -> Reply
+fn refusal(m: &[u8], held: Registers, at: usize, n: u8, j: u8) -> Result<(), Refusal>
     requires { SoundMemory m.now × (at + 5 + j ≤ length (view m.now).code) }
     ensures { (g : Process) (place : ℕ) → RegistersWithin g → held ≡ registers_of g
         → result ≡ own_reply g (run_of place n (slots_at (view m.now).code at 5 j)) }
@@ -48,16 +48,14 @@ fn callee(m: &[u8], held: Registers, at: usize, place: u16, n: u8, j: u8) -> Reg
 }
 
 // The run stands at `at` in the code and lists j slots.
-pub fn run(m: &mut [u8], r: Record, at: usize, place: u16, n: u8, j: u8) -> Reply
+pub fn run(m: &mut [u8], r: Record, at: usize, place: u16, n: u8, j: u8) -> Result<(), Refusal>
     requires { SoundMemory m.old × RunsAt m.old (record_number r) × (at + 5 + j ≤ length (view m.old).code) }
     ensures { (next : ℕ) → Stepped m.old (record_number r) next
         (run_of place n (slots_at (view m.old).code at 5 j)) result m.new }
 {
     let held = registers::load(m, r);
-    if let Reply::Refused(number) = refusal(m, held, at, n, j) {
-        return Reply::Refused(number);
-    }
+    refusal(m, held, at, n, j)?;
     let after = callee(m, held, at, place, n, j);
     registers::save_running(m, r, after);
-    Reply::Done
+    Ok(())
 }

@@ -12,29 +12,29 @@ ghost use Rattle.keeping.proofs.LayoutLaws.{Sized};
 ghost use Rattle.stepping.specs.Stepped.{Stepped, RunsAt};
 ghost use Rattle.processes.specs.Joinable.{shared_reply, Joinable};
 
-use rules::{End, OWN_QUEUE_NOT_EMPTY, Record, Reply, SAME_TWICE, Slot};
+use rules::{End, Record, Refusal, Slot};
 
 // 12 or 14, or nothing to refuse; x and y are the ends in c and d.
-fn refusal(m: &[u8], c: Slot, d: Slot, x: End, y: End) -> Reply
+fn refusal(m: &[u8], c: Slot, d: Slot, x: End, y: End) -> Result<(), Refusal>
     requires { (length m.now ≡ state_size) × (end_number x < end_count) × (end_number y < end_count) }
     ensures { (st : State) (g : Process) → Sized st → m.now ≡ layout st → end_number x ≡ end_in g (slot_number c)
         → end_number y ≡ end_in g (slot_number d) → is_free_end (end_at st (end_number x)) ≡ false
         → result ≡ shared_reply st g (same_of (slot_number c) (slot_number d)) }
 {
     if c.0 == d.0 {
-        return Reply::Refused(SAME_TWICE); // one slot twice
+        return Err(Refusal::SameTwice); // one slot twice
     }
     let partner = ends::partner(m, x);
     if partner.0 == y.0 {
-        return Reply::Refused(SAME_TWICE); // two partners
+        return Err(Refusal::SameTwice); // two partners
     }
     if 0 < ends::queued(m, x) {
-        return Reply::Refused(OWN_QUEUE_NOT_EMPTY);
+        return Err(Refusal::OwnQueueNotEmpty);
     }
     if 0 < ends::queued(m, y) {
-        return Reply::Refused(OWN_QUEUE_NOT_EMPTY);
+        return Err(Refusal::OwnQueueNotEmpty);
     }
-    Reply::Done
+    Ok(())
 }
 
 fn join(m: &mut [u8], x: End, y: End)
@@ -50,22 +50,18 @@ fn join(m: &mut [u8], x: End, y: End)
     ends::set_partner(m, v, u);
 }
 
-pub fn same(m: &mut [u8], r: Record, c: Slot, d: Slot) -> Reply
+pub fn same(m: &mut [u8], r: Record, c: Slot, d: Slot) -> Result<(), Refusal>
     requires m_len { length m.old ≡ state_size }
     requires sound_memory { SoundMemory m.old × RunsAt m.old (record_number r) }
     ensures { (next : ℕ) → Stepped m.old (record_number r) next (same_of (slot_number c) (slot_number d)) result
         m.new }
 {
     let held = registers::load(m, r);
-    if let Reply::Refused(number) = causes::same(held, c, d) {
-        return Reply::Refused(number);
-    }
+    causes::same(held, c, d)?;
     let x = stepping::own_end(held, c);
     let y = stepping::own_end(held, d);
-    if let Reply::Refused(number) = refusal(m, c, d, x, y) {
-        return Reply::Refused(number);
-    }
+    refusal(m, c, d, x, y)?;
     join(m, x, y);
     registers::clear(m, r);
-    Reply::Done
+    Ok(())
 }

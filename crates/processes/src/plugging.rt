@@ -16,7 +16,7 @@ ghost use Rattle.processes.specs.Spare.{Spare};
 use code::Branch;
 use ends::word::{count, lowest, without_lowest};
 use registers::Registers;
-use rules::{End, NONE_FREE, RECORD_COUNT, Record, Reply, Slot};
+use rules::{End, Record, Refusal, Slot, RECORD_COUNT};
 
 // One of the two processes: a record runs with the slots of its set and an end in slot a.
 fn begin(m: &mut [u8], r: Record, held: Registers, a: Slot, to: Branch, e: End)
@@ -54,23 +54,21 @@ fn divide(
 }
 
 // 15 with fewer than two free ends or with no free record; both are looked at before anything is taken.
-pub fn plug(m: &mut [u8], r: Record, a: Slot, first: Branch, second: Branch) -> Reply
+pub fn plug(m: &mut [u8], r: Record, a: Slot, first: Branch, second: Branch) -> Result<(), Refusal>
     requires { SoundMemory m.old × RunsAt m.old (record_number r) }
     ensures { (next : ℕ) → Stepped m.old (record_number r) next
         (plug_of (slot_number a) first.set first.place second.set second.place) result m.new }
 {
     let held = registers::load(m, r);
-    if let Reply::Refused(number) = causes::plug(held, a, first, second) {
-        return Reply::Refused(number);
-    }
+    causes::plug(held, a, first, second)?;
     let word = ends::free_word(m);
     if count(word) < 2 {
-        return Reply::Refused(NONE_FREE);
+        return Err(Refusal::NoneFree);
     }
     let new = registers::lowest_free_record(m);
     if RECORD_COUNT as u8 <= new.0 {
-        return Reply::Refused(NONE_FREE);
+        return Err(Refusal::NoneFree);
     }
     divide(m, r, held, a, first, second, word, new);
-    Reply::Done
+    Ok(())
 }

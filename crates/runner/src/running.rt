@@ -11,7 +11,7 @@ ghost use Rattle.runner.specs.Runs.{Ended, ran_reply};
 
 use crate::searching::{Stepped, position_after, step_from};
 use crate::verdict::{Verdict, verdict_of};
-use rules::{POSITION_COUNT, Reply, START_POSITION};
+use rules::{Refusal, POSITION_COUNT};
 
 // Steps made, the next position and the verdict, or one of document 01's numbers.
 #[derive(Clone, Copy)]
@@ -59,7 +59,7 @@ pub fn run(state: &mut [u8], budget: u16, start: u32) -> Ran
         return Ran::Refused(n);
     }
     if POSITION_COUNT as u32 <= start {
-        return Ran::Refused(START_POSITION);
+        return Err(Refusal::StartPosition);
     }
     let lengths = code::length_table();
     let count = make_steps(state, &lengths, budget, start);

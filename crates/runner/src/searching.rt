@@ -14,7 +14,7 @@ ghost use Rattle.keeping.specs.Demand3.{SoundMemory};
 ghost use Rattle.runner.specs.Runs.{PassedTo, stepped_by, memory_by};
 
 use registers::Status;
-use rules::{End, POSITION_COUNT, RECORD_COUNT, Record, Reply};
+use rules::{End, Record, Refusal, POSITION_COUNT, RECORD_COUNT};
 
 // Where a step was made, if one was.
 #[derive(Clone, Copy)]
@@ -105,7 +105,7 @@ fn step_between(m: &mut [u8], lengths: &[u8; 256], from: u32, to: u32) -> Steppe
 {
     let mut p = next_candidate(m, from);
     while p < to {
-        if let Reply::Done = asking::step(m, lengths, p) {
+        if let Ok(()) = asking::step(m, lengths, p) {
             return Stepped::At(p);
         }
         p = next_candidate(m, p + 1);

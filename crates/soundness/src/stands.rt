@@ -17,7 +17,7 @@ ghost use Rattle.soundness.specs.Replies.{says_done};
 use crate::lasts::{Last, last_of};
 use code::{Decoded, Instruction, decode, length_table};
 use registers::{Held, Registers, Status};
-use rules::{END_COUNT, End, Record, Reply, Slot};
+use rules::{End, Record, Refusal, Slot, END_COUNT};
 
 // Slot c holds end e.
 fn holds(held: Registers, c: Slot, e: End) -> bool
@@ -37,7 +37,7 @@ fn stands_held(there: bool, own: Reply) -> bool
         return false;
     }
     match own {
-        Reply::Done => true,
+        Ok(()) => true,
         Reply::Refused(_) => false,
     }
 }
