@@ -17,8 +17,6 @@ use Rattle.rules.specs.Calls.{sound_bytes, output_or, write_answer, write}
 use Rattle.rules.specs.Numbers.{reply_to, reply_number}
 use Rattle.rules.proofs.Promises.{is_refused, reply_number_lem}
 use Rattle.rules.specs.Text.{text}
-use Rattle.rules.specs.declared.Reply.{Reply}
-use Rattle.rules.specs.declared.Reply.TheVariants.{Done, Refused}
 use Rattle.rules.proofs.Rows.{all_passed}
 use Rattle.words.specs.Parts.{put_at}
 use Rattle.words.proofs.Pads.{length_pad}
@@ -35,7 +33,7 @@ use Rattle.answers.specs.Answers.{dump_answered, peek_answered, poke_answered, p
 -- ---- a step
 
 -- what is printed with the reply to an ask
-pub step_replied : {A : Type 0} (name : List ℕ) (n : ℕ) {reply : Reply} (a : Answer A) → reply ≡ reply_to a
+pub step_replied : {A : Type 0} (name : List ℕ) (n : ℕ) {reply : Answer (Unit {0})} (a : Answer A) → reply ≡ reply_to a
     → step_text name n (reply_number reply) ≡ step_text name n (number_of a)
 step_replied name n a is = ap (λ (k : ℕ). step_text name n k) (ap reply_number is ∙ reply_number_lem a)
 
@@ -44,7 +42,7 @@ step_replied name n a is = ap (λ (k : ℕ). step_text name n k) (ap reply_numbe
 -- what is printed for it
 abbrev text_in : Ran → List ℕ
 text_in (ran.Made steps next v) = made_text steps next (verdict_in v)
-text_in (ran.Refused n) = number_line (text "run: ") n
+text_in (ran.refused n) = number_line (text "run: ") n
 
 reply_text : (a : Answer run.Ran) → text_in (ran_reply a) ≡ ran_text a
 reply_text (refused n) = refl
@@ -57,7 +55,7 @@ run_text_lem a {given} {shown} is e = ap text_in (sym is ∙ e) ∙ reply_text a
 -- ---- a write
 
 -- refused: the number
-pub write_refused : (code : List ℕ) (a : Answer (List ℕ)) (n : ℕ) → Refused n ≡ reply_to a
+pub write_refused : (code : List ℕ) (a : Answer (List ℕ)) (n : ℕ) → refused n ≡ reply_to a
     → number_line (text "write ") n ≡ written_text code a
 write_refused code (refused k) n e = ap (λ (j : ℕ). number_line (text "write ") j) (ap reply_number e)
 write_refused code (done x) n e = absurd (omega (arith, ap is_refused e))
@@ -76,7 +74,7 @@ unfolding block_count
 image_short code h = omega arith
 
 -- done: the code is no longer than a code may be
-pub write_done : (code room : List ℕ) (a : Answer (List ℕ)) → write_answer code room ≡ a → Done ≡ reply_to a
+pub write_done : (code room : List ℕ) (a : Answer (List ℕ)) → write_answer code room ≡ a → (done tt) ≡ reply_to a
     → (length code ≤ code_limit) × (a ≡ done (written code room))
 unfolding write_answer write_causes
 write_done code room (refused n) is e = absurd (omega (arith, ap is_refused e))
@@ -91,7 +89,7 @@ pub record Written-image (code after : List ℕ) : Type 0 where
   pub front_is : take (block_size * block_count (length code)) after ≡ image_of code
   pub text_is : number_line (text "write ") 0 ++ hex_line (image_of code) ≡ write_answered code
 
-pub image_done : (code room : List ℕ) {after : List ℕ} → room ≡ image_room → Done ≡ reply_to (write_answer code room)
+pub image_done : (code room : List ℕ) {after : List ℕ} → room ≡ image_room → (done tt) ≡ reply_to (write_answer code room)
     → after ≡ (write code room).memory → Written-image code after
 unfolding write written write_answered
 image_done code room {after} is e left =

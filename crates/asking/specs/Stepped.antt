@@ -4,20 +4,19 @@ use Rattle.std.specs.Prelude.{List, ℕ, ◌+◌, ◌≤◌, length}
 use Rattle.rules.specs.Ask.{ask_record, ask}
 use Rattle.rules.specs.Layout.{view}
 use Rattle.rules.specs.Calls.{layout_or}
-use Rattle.rules.specs.Numbers.{reply_to}
+use Rattle.rules.specs.Numbers.{Reply, answer_of, reply_to}
 use Rattle.rules.specs.Promise.{Promise}
-use Rattle.rules.specs.declared.Reply.{Reply}
 use Rattle.code.specs.declared.Instruction.{Instruction}
 use Rattle.code.specs.declared.Instruction.TheVariants.{Cst, Access, Store, Add, Mul, Leq, Put, Get, Split, Fork}
 use Rattle.code.specs.declared.Instruction.TheVariants.{Plug, Close, Halt, Same, Hput, Hcase, Run}
 
 -- record r is asked to step in the state that m shows: the reply and the memory left
 abbrev pub RecordStepped : (m : List ℕ) (r : ℕ) → Reply → (left : List ℕ) → Type 0
-RecordStepped m r reply left = Promise (reply_to (ask_record (view m) r)) (layout_or m (ask_record (view m) r)) reply left
+RecordStepped m r reply left = Promise (reply_to (ask_record (view m) r)) (layout_or m (ask_record (view m) r)) (answer_of reply) left
 
 -- position p is asked to step in the state that m shows
 abbrev pub PositionStepped : (m : List ℕ) (p : ℕ) → Reply → (left : List ℕ) → Type 0
-PositionStepped m p reply left = Promise (reply_to (ask (view m) p)) (layout_or m (ask (view m) p)) reply left
+PositionStepped m p reply left = Promise (reply_to (ask (view m) p)) (layout_or m (ask (view m) p)) (answer_of reply) left
 
 -- the slots that a run lists stand in the code; the other instructions list none that their step reads
 abbrev pub ListedIn : (code : List ℕ) (at : ℕ) → Instruction → Type 0

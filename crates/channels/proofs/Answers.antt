@@ -4,7 +4,7 @@ use mathlib.Core.Bool.{Bool, true, false}
 use mathlib.Core.List.{List, [], ◌∷◌}
 use Prim.Native.Nat.{ℕ}
 use Rattle.rules.specs.State.{State, Registers as Process, RecordState, running, Item, record_at, set_record, end_in}
-use Rattle.rules.specs.Refusal.{Answer, done, NoCause, unless}
+use Rattle.rules.specs.Refusal.{Answer, done, NoCause, unless, refused}
 use Rattle.rules.specs.Instruction.{Instruction}
 use Rattle.rules.specs.Causes.{empty, own_causes, queue_full}
 use Rattle.rules.specs.RecordStep.{append, waits}
@@ -12,8 +12,6 @@ use Rattle.rules.specs.Layout.{layout, view}
 use Rattle.rules.specs.Calls.{layout_or}
 use Rattle.rules.specs.Numbers.{reply_to}
 use Rattle.rules.specs.Promise.{Promise}
-use Rattle.rules.specs.declared.Reply.{Reply}
-use Rattle.rules.specs.declared.Reply.TheVariants.{Done, Refused}
 use Rattle.keeping.specs.Demand3.{SoundMemory}
 use Rattle.keeping.proofs.LayoutLaws.{Sized}
 use Rattle.registers.specs.declared.Registers.{Registers}
@@ -28,7 +26,7 @@ use Rattle.channels.specs.Splitting.{shared_answer, SharedStep}
 -- ---- the rows 5 to 11
 
 -- none of them holds
-module _ {m : List ℕ} {r : ℕ} {i : Instruction} {x : Registers} (b : Begun m r i x Done) (c : ℕ)
+module _ {m : List ℕ} {r : ℕ} {i : Instruction} {x : Registers} (b : Begun m r i x (done tt)) (c : ℕ)
     (named : (g : Process) → NoCause (own_causes g i) → empty c g ≡ false) where
   pub holds_end : HoldsEnd m x c
   holds_end = record { owner = r; sound = b.sound; is_loaded = shown b; not_empty = named (shown_by m r) (shown_passed b) }
@@ -41,42 +39,42 @@ module _ {m : List ℕ} {r : ℕ} {i : Instruction} {x : Registers} (b : Begun m
 -- the code has answered with 13 or the state x; the step's answer is 13 or the state y
 full_case : (b : Bool) (x y : State) (m : List ℕ) {left : List ℕ} {n : ℕ} → let a = unless ((13, b) ∷ []) (done x) in
     let a' = unless ((13, b) ∷ []) (done y) in
-    Promise (reply_to a) (layout_or m a) (Refused n) left → Promise (reply_to a') (layout_or m a') (Refused n) left
+    Promise (reply_to a) (layout_or m a) (refused n) left → Promise (reply_to a') (layout_or m a') (refused n) left
 unfolding unless
 full_case true x y m p = record { answer_is = p.answer_is; memory_is = p.memory_is }
 full_case false x y m p = refused_not_done p.answer_is
 
 room_case : (b : Bool) (x y : State) (m : List ℕ) {left : List ℕ} → let a = unless ((13, b) ∷ []) (done x) in
-    Promise (reply_to a) (layout_or m a) Done left → (left ≡ layout x) × (unless ((13, b) ∷ []) (done y) ≡ done y)
+    Promise (reply_to a) (layout_or m a) (done tt) left → (left ≡ layout x) × (unless ((13, b) ∷ []) (done y) ≡ done y)
 unfolding unless
 room_case true x y m p = refused_not_done (sym p.answer_is)
 room_case false x y m p = (p.memory_is, refl)
 
-module _ {m : List ℕ} {g : Process} {c : ℕ} {y : Item} {reply : Reply} {left : List ℕ} (p : Appended m g c y reply left) where
-  promised : (reply' : Reply) → reply ≡ reply'
+module _ {m : List ℕ} {g : Process} {c : ℕ} {y : Item} {reply : Answer (Unit {0})} {left : List ℕ} (p : Appended m g c y reply left) where
+  promised : (reply' : Answer (Unit {0})) → reply ≡ reply'
       → let a = unless_full (view m) g c (append (view m) (end_in g c) y) in Promise (reply_to a) (layout_or m a) reply' left
   promised reply' e = record { answer_is = sym e ∙ p.appended.answer_is; memory_is = p.appended.memory_is }
 
   -- 13 is the answer
-  pub full_step : {n : ℕ} → reply ≡ Refused n → (st : State) {a : Answer State} → a ≡ unless_full (view m) g c st
-      → Promise (reply_to a) (layout_or m a) (Refused n) left
+  pub full_step : {n : ℕ} → reply ≡ refused n → (st : State) {a : Answer State} → a ≡ unless_full (view m) g c st
+      → Promise (reply_to a) (layout_or m a) (refused n) left
   full_step e st q = rw q (full_case (queue_full (view m) c g) (append (view m) (end_in g c) y) st m (promised _ e))
 
   -- the item y' stands on the queue, and record r is put anew
-  pub sent : reply ≡ Done → SoundMemory m → {y' : Item} → y ≡ y' → (r : ℕ) (z : RecordState) {exit : List ℕ}
+  pub sent : reply ≡ (done tt) → SoundMemory m → {y' : Item} → y ≡ y' → (r : ℕ) (z : RecordState) {exit : List ℕ}
       → ((st : State) → Sized st → left ≡ layout st → exit ≡ layout (set_record st r z)) → {a : Answer State}
-      → a ≡ unless_full (view m) g c (set_record (append (view m) (end_in g c) y') r z) → Promise (reply_to a) (layout_or m a) Done exit
+      → a ≡ unless_full (view m) g c (set_record (append (view m) (end_in g c) y') r z) → Promise (reply_to a) (layout_or m a) (done tt) exit
   sent e s {y'} same r z save q =
       let st = append (view m) (end_in g c) y' in
-      let goes = room_case (queue_full (view m) c g) (append (view m) (end_in g c) y) (set_record st r z) m (promised Done e) in
+      let goes = room_case (queue_full (view m) c g) (append (view m) (end_in g c) y) (set_record st r z) m (promised (done tt) e) in
       let item_is = ap (λ (i : Item). layout (append (view m) (end_in g c) i)) same in
       done_step m _ (q ∙ goes.1) (save st (sized_anew (view m) (end_in g c) _ (memory_sized m s)) (goes.0 ∙ item_is))
 
-pub waited_step : {m : List ℕ} {r : ℕ} {g : Process} {c : ℕ} {reply : Reply} {left : List ℕ} → Waited m r g c reply left
+pub waited_step : {m : List ℕ} {r : ℕ} {g : Process} {c : ℕ} {reply : Answer (Unit {0})} {left : List ℕ} → Waited m r g c reply left
     → {a : Answer State} → a ≡ unless_full (view m) g c (waits (view m) r g c) → Promise (reply_to a) (layout_or m a) reply left
 waited_step w q = promised_as _ q w.waited
 
-pub shared_step : {m : List ℕ} {r next : ℕ} {g : Process} {i : Instruction} {reply : Reply} {left : List ℕ}
+pub shared_step : {m : List ℕ} {r next : ℕ} {g : Process} {i : Instruction} {reply : Answer (Unit {0})} {left : List ℕ}
     → SharedStep m r next g i reply left → {a : Answer State} → a ≡ shared_answer (view m) r next g i
     → Promise (reply_to a) (layout_or m a) reply left
 shared_step h q = promised_as _ q h.shared

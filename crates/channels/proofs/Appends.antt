@@ -11,7 +11,6 @@ use Rattle.rules.specs.Refusal.{refused, done, unless}
 use Rattle.rules.specs.Causes.{queue_full}
 use Rattle.rules.specs.RecordStep.{append}
 use Rattle.rules.specs.Layout.{layout, view}
-use Rattle.rules.specs.declared.Reply.TheVariants.{Done, Refused}
 use Rattle.keeping.specs.Demand3.{SoundMemory}
 use Rattle.keeping.proofs.LayoutLaws.{Sized}
 use Rattle.registers.specs.declared.Registers.{Registers}
@@ -39,13 +38,13 @@ module _ {m : List ℕ} (s : SoundMemory m) {r : ℕ} {x : Registers} {g : Proce
   pub not_full : q < queue_depth → queue_full (view m) c g ≡ false
   not_full l = lt-leb queue_depth _ (subst (λ (k : ℕ). k < queue_depth) count_is l)
 
-  pub not_appended : queue_depth ≤ q → (y : Item) → Appended m g c y (Refused 13) m
+  pub not_appended : queue_depth ≤ q → (y : Item) → Appended m g c y (refused 13) m
   not_appended l y = record { appended = refused_step 13 (is_full (view m) g c _ (full l)) }
 
   pub item_appended : q < queue_depth → (y : Item) {left : List ℕ}
       → ((st : State) → Sized st → m ≡ layout st → is_free_end (end_at st e) ≡ false → last_of (end_at st e) ≡ none
       → left ≡ layout (append st e y))
-      → Appended m g c y Done left
+      → Appended m g c y (done tt) left
   item_appended l y written =
       let mine = own s h e is in
       let w = written (view m) (memory_sized m s) s.laid_out mine.in_use mine.no_last in

@@ -6,9 +6,8 @@ use Rattle.rules.specs.Causes.{empty, queue_full}
 use Rattle.rules.specs.RecordStep.{append, waits}
 use Rattle.rules.specs.Layout.{view}
 use Rattle.rules.specs.Calls.{layout_or}
-use Rattle.rules.specs.Numbers.{reply_to}
+use Rattle.rules.specs.Numbers.{Reply, answer_of, reply_to}
 use Rattle.rules.specs.Promise.{Promise}
-use Rattle.rules.specs.declared.Reply.{Reply}
 use Rattle.keeping.specs.Demand3.{SoundMemory}
 use Rattle.registers.specs.declared.Registers.{Registers}
 use Rattle.registers.specs.Registers.{registers_of}
@@ -33,8 +32,8 @@ unless_full st g c y = unless ((13, queue_full st c g) ∷ []) (done y)
 
 -- 13, or the item x appended to the queue of slot c's end: the reply, and the memory left
 pub record Appended (m : List ℕ) (g : Process) (c : ℕ) (x : Item) (reply : Reply) (left : List ℕ) : Type 0 where
-  pub appended : let a = unless_full (view m) g c (append (view m) (end_in g c) x) in Promise (reply_to a) (layout_or m a) reply left
+  pub appended : let a = unless_full (view m) g c (append (view m) (end_in g c) x) in Promise (reply_to a) (layout_or m a) (answer_of reply) left
 
 -- 13, or a wait on that queue and record r waiting at its present place
 pub record Waited (m : List ℕ) (r : ℕ) (g : Process) (c : ℕ) (reply : Reply) (left : List ℕ) : Type 0 where
-  pub waited : let a = unless_full (view m) g c (waits (view m) r g c) in Promise (reply_to a) (layout_or m a) reply left
+  pub waited : let a = unless_full (view m) g c (waits (view m) r g c) in Promise (reply_to a) (layout_or m a) (answer_of reply) left

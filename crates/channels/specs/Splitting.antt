@@ -8,9 +8,8 @@ use Rattle.rules.specs.Causes.{shared_causes}
 use Rattle.rules.specs.RecordStep.{lowest_free, after}
 use Rattle.rules.specs.Layout.{view}
 use Rattle.rules.specs.Calls.{layout_or}
-use Rattle.rules.specs.Numbers.{end_number, reply_to}
+use Rattle.rules.specs.Numbers.{Reply, answer_of, end_number, reply_to}
 use Rattle.rules.specs.Promise.{Promise}
-use Rattle.rules.specs.declared.Reply.{Reply}
 use Rattle.ends.specs.declared.word.FourEnds.{FourEnds}
 
 -- four ends of the state
@@ -26,4 +25,4 @@ shared_answer st r next g i = unless (shared_causes st g i) (done (after st r ne
 
 -- the reply and the memory left are those of that answer
 pub record SharedStep (m : List ℕ) (r next : ℕ) (g : Process) (i : Instruction) (reply : Reply) (left : List ℕ) : Type 0 where
-  pub shared : let a = shared_answer (view m) r next g i in Promise (reply_to a) (layout_or m a) reply left
+  pub shared : let a = shared_answer (view m) r next g i in Promise (reply_to a) (layout_or m a) (answer_of reply) left

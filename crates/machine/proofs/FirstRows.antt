@@ -18,8 +18,6 @@ use Rattle.rules.specs.Calls.{sound_bytes, where_sound, layout_or, record_answer
 use Rattle.rules.specs.Numbers.{reply_to, reply_number}
 use Rattle.rules.proofs.Promises.{is_refused}
 use Rattle.rules.specs.Promise.{Promise}
-use Rattle.rules.specs.declared.Reply.{Reply}
-use Rattle.rules.specs.declared.Reply.TheVariants.{Done, Refused}
 use Rattle.keeping.specs.Demand3.{SoundMemory}
 use Rattle.keeping.proofs.Memories.{memory_of_test}
 use Rattle.keeping.proofs.Demand3.{where_sound_lem}
@@ -29,34 +27,34 @@ use Rattle.stepping.proofs.Steps.{refused_step, memory_sized}
 use Rattle.machine.specs.Answers.{sound_reply}
 
 module _ (m : List ℕ) where
-  pub another_length : length m ≢ state_size → Refused 24 ≡ sound_reply m
+  pub another_length : length m ≢ state_size → refused 24 ≡ sound_reply m
   unfolding unless
   another_length h = rw (ne_eqb (length m) state_size h)
 
-  pub not_sound : length m ≡ state_size → sound_bytes m ≡ false → Refused 1 ≡ sound_reply m
+  pub not_sound : length m ≡ state_size → sound_bytes m ≡ false → refused 1 ≡ sound_reply m
   unfolding unless
   not_sound h f = rw (eq-eqb (length m) state_size h, f)
 
-  pub is_right : length m ≡ state_size → sound_bytes m ≡ true → Done ≡ sound_reply m
+  pub is_right : length m ≡ state_size → sound_bytes m ≡ true → (done tt) ≡ sound_reply m
   unfolding unless
   is_right h t = rw (eq-eqb (length m) state_size h, t)
 
   -- refused by 24 or 1: so is every request that begins with them
-  pub refused_so : {A : Type 0} (a : Answer A) (n : ℕ) → sound_reply m ≡ Refused n → where_sound m a ≡ refused n
+  pub refused_so : {A : Type 0} (a : Answer A) (n : ℕ) → sound_reply m ≡ refused n → where_sound m a ≡ refused n
   unfolding unless
   refused_so a n e = go (eqb (length m) state_size) (sound_bytes m) refl refl e
     where
-      go : (b t : Bool) → eqb (length m) state_size ≡ b → sound_bytes m ≡ t → sound_reply m ≡ Refused n → where_sound m a ≡ refused n
+      go : (b t : Bool) → eqb (length m) state_size ≡ b → sound_bytes m ≡ t → sound_reply m ≡ refused n → where_sound m a ≡ refused n
       go false t q z h = let k = ap reply_number (rw q at h) in rw q (ap refused k)
       go true false q z h = let k = ap reply_number (rw (q, z) at h) in rw (q, z) (ap refused k)
       go true true q z h = absurd (omega (arith, ap is_refused (rw (q, z) at h)))
 
   -- not refused: the memory is sound
-  pub sound_so : sound_reply m ≡ Done → SoundMemory m
+  pub sound_so : sound_reply m ≡ (done tt) → SoundMemory m
   unfolding unless
   sound_so e = go (eqb (length m) state_size) (sound_bytes m) refl refl e
     where
-      go : (b t : Bool) → eqb (length m) state_size ≡ b → sound_bytes m ≡ t → sound_reply m ≡ Done → SoundMemory m
+      go : (b t : Bool) → eqb (length m) state_size ≡ b → sound_bytes m ≡ t → sound_reply m ≡ (done tt) → SoundMemory m
       go b true q z h = memory_of_test m z
       go false false q z h = absurd (omega (arith, ap is_refused (rw q at h)))
       go true false q z h = absurd (omega (arith, ap is_refused (rw (q, z) at h)))
@@ -64,22 +62,22 @@ module _ (m : List ℕ) where
 -- ---- the asks
 
 module _ (m : List ℕ) (number : ℕ) where
-  pub record_refused : (n : ℕ) → sound_reply m ≡ Refused n
-      → Promise (reply_to (record_answer m number)) (call_record m number).memory (Refused n) m
+  pub record_refused : (n : ℕ) → sound_reply m ≡ refused n
+      → Promise (reply_to (record_answer m number)) (call_record m number).memory (refused n) m
   unfolding record_answer call_record
   record_refused n e = refused_step n (refused_so m (ask_record (view m) number) n e)
 
-  pub end_refused : (n : ℕ) → sound_reply m ≡ Refused n → Promise (reply_to (end_answer m number)) (call_end m number).memory (Refused n) m
+  pub end_refused : (n : ℕ) → sound_reply m ≡ refused n → Promise (reply_to (end_answer m number)) (call_end m number).memory (refused n) m
   unfolding end_answer call_end
   end_refused n e = refused_step n (refused_so m (ask_end (view m) number) n e)
 
-  pub record_asked : {r : Reply} {left : List ℕ} → SoundMemory m
+  pub record_asked : {r : Answer (Unit {0})} {left : List ℕ} → SoundMemory m
       → Promise (reply_to (ask_record (view m) number)) (layout_or m (ask_record (view m) number)) r left
       → Promise (reply_to (record_answer m number)) (call_record m number).memory r left
   unfolding record_answer call_record
   record_asked s p = rw (where_sound_lem m (ask_record (view m) number) s) p
 
-  pub end_asked : {r : Reply} {left : List ℕ} → SoundMemory m
+  pub end_asked : {r : Answer (Unit {0})} {left : List ℕ} → SoundMemory m
       → Promise (reply_to (ask_end (view m) number)) (layout_or m (ask_end (view m) number)) r left
       → Promise (reply_to (end_answer m number)) (call_end m number).memory r left
   unfolding end_answer call_end
@@ -88,7 +86,7 @@ module _ (m : List ℕ) (number : ℕ) where
 -- ---- the free ends
 
 module _ (m : List ℕ) where
-  pub free_refused : (n : ℕ) → sound_reply m ≡ Refused n → refused n ≡ call_free_ends m
+  pub free_refused : (n : ℕ) → sound_reply m ≡ refused n → refused n ≡ call_free_ends m
   unfolding call_free_ends
   free_refused n e = sym (refused_so m _ n e)
 

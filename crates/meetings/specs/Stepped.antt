@@ -8,13 +8,12 @@ use Rattle.rules.specs.EndStep.{Meeting, waiter_in, datum_against, split_against
 use Rattle.rules.specs.Ask.{ask_end}
 use Rattle.rules.specs.Layout.{view}
 use Rattle.rules.specs.Calls.{layout_or}
-use Rattle.rules.specs.Numbers.{reply_to}
+use Rattle.rules.specs.Numbers.{Reply, answer_of, reply_to}
 use Rattle.rules.specs.Promise.{Promise}
-use Rattle.rules.specs.declared.Reply.{Reply}
 
 -- end e is asked to step in the state that m shows: the reply and the memory left
 abbrev pub EndStepped : (m : List ℕ) (e : ℕ) → Reply → (left : List ℕ) → Type 0
-EndStepped m e reply left = Promise (reply_to (ask_end (view m) e)) (layout_or m (ask_end (view m) e)) reply left
+EndStepped m e reply left = Promise (reply_to (ask_end (view m) e)) (layout_or m (ask_end (view m) e)) (answer_of reply) left
 
 -- what is left to answer where the heads of e and its partner f make v: 18, 19, or the state after
 unfoldable pub ask_met : State → (e f : ℕ) → Meeting → Answer State
@@ -24,7 +23,7 @@ ask_met st e f v =
 
 -- the reply and the memory left of that
 abbrev pub Met : (m : List ℕ) (e f : ℕ) → Meeting → Reply → (left : List ℕ) → Type 0
-Met m e f v reply left = Promise (reply_to (ask_met (view m) e f v)) (layout_or m (ask_met (view m) e f v)) reply left
+Met m e f v reply left = Promise (reply_to (ask_met (view m) e f v)) (layout_or m (ask_met (view m) e f v)) (answer_of reply) left
 
 -- a datum at the head of `from` meets the wait of record r at the head of `to`, whichever of the two ends was asked
 abbrev pub DatumMet : (m : List ℕ) (from to r : ℕ) → Datum → Reply → (left : List ℕ) → Type 0

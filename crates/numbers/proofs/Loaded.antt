@@ -16,7 +16,6 @@ use Rattle.rules.specs.Layout.{layout, view}
 use Rattle.rules.specs.Calls.{layout_or}
 use Rattle.rules.specs.Numbers.{reply_to}
 use Rattle.rules.specs.Promise.{Promise}
-use Rattle.rules.specs.declared.Reply.{Reply}
 use Rattle.keeping.specs.Demand3.{SoundMemory}
 use Rattle.keeping.proofs.LayoutLaws.{Sized}
 use Rattle.registers.specs.declared.Registers.{Registers}
@@ -45,7 +44,7 @@ module _ (g : Process) {x : Registers} (e : x ≡ registers_of g) where
 -- the value v that the code checked is w, and the answer a is that of w
 pub checked_step : (m : List ℕ) → SoundMemory m → (r next : ℕ) (g : Process) → record_at (view m) r ≡ running g
     → {x : Registers} → x ≡ registers_of g → {v w : ℤ} → v ≡ w → {a : Answer State} → checked (view m) r next g w ≡ a
-    → {reply : Reply} {left : List ℕ}
+    → {reply : Answer (Unit {0})} {left : List ℕ}
     → ((st : State) (g : Process) → Sized st → m ≡ layout st → length g.stack ≤ stack_depth → x ≡ registers_of g
     → Promise (reply_to (checked st r next g v)) (layout_or m (checked st r next g v)) reply left)
     → Promise (reply_to a) (layout_or m a) reply left

@@ -10,12 +10,11 @@ use Rattle.rules.specs.Instruction.{run}
 use Rattle.rules.specs.Causes.{own_causes, shared_causes}
 use Rattle.rules.specs.RecordStep.{after}
 use Rattle.rules.specs.Ask.{answer_to}
-use Rattle.rules.specs.declared.Reply.TheVariants.{Done}
 use Rattle.registers.specs.Registers.{called}
 use Rattle.causes.specs.Own.{own_reply}
 use Rattle.causes.proofs.Shared.{none_holds, own_done}
 
-module _ (g : Registers) (place n : ℕ) (cs : List ℕ) (passes : own_reply g (run place n cs) ≡ Done) where
+module _ (g : Registers) (place n : ℕ) (cs : List ℕ) (passes : own_reply g (run place n cs) ≡ (done tt)) where
   -- there are n values
   pub enough : n ≤ length g.stack
   unfolding own_causes

@@ -6,32 +6,31 @@ use native.Mathlib.Omega.{arith}
 use lib.Dec.{eqb}
 use borrow.Author.Tests.{lt-ltb, le-ltb}
 use Rattle.rules.specs.State.{State, EndState, free_end, used, Registers, end_at, end_in, end_or, is_free_end, queue_length, partner_of}
-use Rattle.rules.specs.Refusal.{unless}
+use Rattle.rules.specs.Refusal.{unless, refused, done}
 use Rattle.rules.specs.Instruction.{same}
 use Rattle.rules.specs.Causes.{names, partners, queue_not_empty, shared_causes}
-use Rattle.rules.specs.declared.Reply.TheVariants.{Done, Refused}
 use Rattle.processes.specs.Joinable.{shared_reply}
 
 module _ (st : State) (g : Registers) (c d : ℕ) where
-  pub one_slot_twice : eqb c d ≡ true → Refused 12 ≡ shared_reply st g (same c d)
+  pub one_slot_twice : eqb c d ≡ true → refused 12 ≡ shared_reply st g (same c d)
   unfolding shared_causes unless
   one_slot_twice t = rw t
 
-  pub two_partners : eqb c d ≡ false → partners st c d g ≡ true → Refused 12 ≡ shared_reply st g (same c d)
+  pub two_partners : eqb c d ≡ false → partners st c d g ≡ true → refused 12 ≡ shared_reply st g (same c d)
   unfolding shared_causes unless
   two_partners f t = rw (f, t)
 
-  pub first_queued : eqb c d ≡ false → partners st c d g ≡ false → queue_not_empty st c g ≡ true → Refused 14 ≡ shared_reply st g (same c d)
+  pub first_queued : eqb c d ≡ false → partners st c d g ≡ false → queue_not_empty st c g ≡ true → refused 14 ≡ shared_reply st g (same c d)
   unfolding shared_causes unless
   first_queued f f' t = rw (f, f', t)
 
   pub second_queued : eqb c d ≡ false → partners st c d g ≡ false → queue_not_empty st c g ≡ false → queue_not_empty st d g ≡ true
-      → Refused 14 ≡ shared_reply st g (same c d)
+      → refused 14 ≡ shared_reply st g (same c d)
   unfolding shared_causes unless
   second_queued f f' f'' t = rw (f, f', f'', t)
 
   pub no_row : eqb c d ≡ false → partners st c d g ≡ false → queue_not_empty st c g ≡ false → queue_not_empty st d g ≡ false
-      → Done ≡ shared_reply st g (same c d)
+      → (done tt) ≡ shared_reply st g (same c d)
   unfolding shared_causes unless
   no_row f f' f'' f''' = rw (f, f', f'', f''')
 

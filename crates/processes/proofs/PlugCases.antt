@@ -13,7 +13,6 @@ use Rattle.rules.specs.Causes.{few_free_ends, no_free_record, shared_causes}
 use Rattle.rules.specs.RecordStep.{lowest_free, after, paired, branch}
 use Rattle.rules.specs.Ask.{answer_to}
 use Rattle.rules.specs.Sound.{Sound}
-use Rattle.rules.specs.declared.Reply.TheVariants.{Done}
 use Rattle.keeping.proofs.LayoutLaws.{Sized}
 use Rattle.keeping.proofs.FreeLaws.{two_free, record_free}
 use Rattle.ends.specs.Words.{ends_in}
@@ -25,7 +24,7 @@ use Rattle.processes.specs.Spare.{Spare}
 
 -- ---- answers
 
-module _ (st : State) (r next : ℕ) (g : Registers) (a m place m' place' : ℕ) (passes : own_reply g (plug a m place m' place') ≡ Done) where
+module _ (st : State) (r next : ℕ) (g : Registers) (a m place m' place' : ℕ) (passes : own_reply g (plug a m place m' place') ≡ (done tt)) where
   pub too_few_ends : few_free_ends 2 st ≡ true → answer_to st r next g (plug a m place m' place') ≡ refused 15
   unfolding shared_causes unless
   too_few_ends t = own_done st r next g (plug a m place m' place') passes ∙ rw t

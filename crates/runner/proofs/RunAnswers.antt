@@ -11,7 +11,6 @@ use Rattle.rules.specs.Run.{steps, reached_by, verdict_of, ran_by, run_from}
 use Rattle.rules.specs.Layout.{view}
 use Rattle.rules.specs.Calls.{reached_or, run_answer, call_run}
 use Rattle.rules.specs.Promise.{Promise}
-use Rattle.rules.specs.declared.Reply.TheVariants.{Refused as RefusedReply}
 use Rattle.keeping.specs.Demand3.{SoundMemory}
 use Rattle.keeping.proofs.Demand3.{where_sound_lem}
 use Rattle.keeping.proofs.Memories.{sound_view, sound_layout}
@@ -35,12 +34,12 @@ module _ (m : List ℕ) (budget start : ℕ) where
   promised a e q z = rw e (record { answer_is = q; memory_is = z })
 
   pub run_refused : (n : ℕ) → sound_reply m ≡ RefusedReply n
-      → Promise (ran_reply (run_answer m budget start)) (call_run m budget start).memory (Refused n) m
+      → Promise (ran_reply (run_answer m budget start)) (call_run m budget start).memory (refused n) m
   unfolding run_answer
   run_refused n e = promised (refused n) (refused_so m _ n e) refl refl
 
   pub start_over : SoundMemory m → position_count ≤ start
-      → Promise (ran_reply (run_answer m budget start)) (call_run m budget start).memory (Refused 25) m
+      → Promise (ran_reply (run_answer m budget start)) (call_run m budget start).memory (refused 25) m
   unfolding run_answer unless
   start_over s h = promised (refused 25) (where_sound_lem m _ s ∙ rw (le-leb position_count start h)) refl refl
 

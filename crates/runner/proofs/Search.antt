@@ -24,8 +24,6 @@ use Rattle.rules.specs.Calls.{layout_or}
 use Rattle.rules.specs.Numbers.{reply_to}
 use Rattle.rules.specs.Promise.{Promise}
 use Rattle.rules.proofs.Promises.{is_refused}
-use Rattle.rules.specs.declared.Reply.{Reply}
-use Rattle.rules.specs.declared.Reply.TheVariants.{Done, Refused}
 use Rattle.registers.specs.declared.records.Status.{Status}
 use Rattle.registers.specs.declared.records.Status.TheVariants.{Running}
 use Rattle.registers.specs.contracts.records.Status.{the_type}
@@ -237,12 +235,12 @@ module _ (m₀ : List ℕ) (from p to : ℕ) (passed : PassedTo (view m₀) from
       ∙ none_left (view m₀) (to - to) to (omega arith))
       (record { answer_is = refl; memory_is = same })
 
-  module _ (below : p < to) {reply : Reply} {left : List ℕ} (asked : PositionStepped m p reply left) where
+  module _ (below : p < to) {reply : Answer (Unit {0})} {left : List ℕ} (asked : PositionStepped m p reply left) where
     asked₀ : PositionStepped m₀ p reply left
     asked₀ = subst (λ (x : List ℕ). PositionStepped x p reply left) same asked
 
     -- p steps
-    pub found_here : reply ≡ Done → Sought (At p) left
+    pub found_here : reply ≡ (done tt) → Sought (At p) left
     found_here is = go (ask (view m₀) p) refl
       where
         go : (a : Answer State) → ask (view m₀) p ≡ a → Sought (At p) left
@@ -256,7 +254,7 @@ module _ (m₀ : List ℕ) (from p to : ℕ) (passed : PassedTo (view m₀) from
             (record { answer_is = refl; memory_is = asked₀.memory_is ∙ ap (layout_or m₀) e })
 
     -- p does not step: the memory is as it was, and p is passed over
-    pub not_here : (n : ℕ) → reply ≡ Refused n → (left ≡ m₀) × PassedTo (view m₀) from (p + 1) position_count
+    pub not_here : (n : ℕ) → reply ≡ refused n → (left ≡ m₀) × PassedTo (view m₀) from (p + 1) position_count
     not_here n is = go (ask (view m₀) p) refl
       where
         go : (a : Answer State) → ask (view m₀) p ≡ a → (left ≡ m₀) × PassedTo (view m₀) from (p + 1) position_count

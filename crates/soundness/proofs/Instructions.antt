@@ -12,7 +12,7 @@ use denote.Enum.Declared.{tag_of}
 use types.Run.{OneOf, miss}
 use Rattle.rules.specs.Limits.{code_limit}
 use Rattle.rules.specs.State.{State, Registers as Process, RecordState, free_record, running, waiting, record_at, slot_at, end_at, last_of}
-use Rattle.rules.specs.Refusal.{Row, unless, no_cause}
+use Rattle.rules.specs.Refusal.{Row, unless, no_cause, Answer, done, is_done}
 use Rattle.rules.specs.Instruction as rules
 use Rattle.rules.specs.Causes.{own_causes, names}
 use Rattle.rules.specs.EndStep.{wait_of, only_if}
@@ -22,7 +22,6 @@ use Rattle.rules.specs.Layout.{state_size, layout, view}
 use Rattle.rules.specs.Numbers.{slot_number, record_number}
 use Rattle.rules.specs.declared.Slot.{Slot}
 use Rattle.rules.specs.declared.Record.{Record}
-use Rattle.rules.specs.declared.Reply.{Reply}
 use Rattle.rules.proofs.TestLaws.{left_of, all_true_read}
 use Rattle.rules.proofs.SoundLaws.{within_read}
 use Rattle.words.specs.Parts.{Bytes}
@@ -45,7 +44,6 @@ use Rattle.canonical.proofs.Memory.{canonical_from}
 use Rattle.soundness.specs.declared.lasts.Last.{Last}
 use Rattle.soundness.specs.declared.lasts.Last.TheVariants.{Wait}
 use Rattle.soundness.specs.Lasts.{last_meaning}
-use Rattle.soundness.specs.Replies.{says_done}
 
 -- ---- a memory that passed S1
 
@@ -71,18 +69,18 @@ slot_names x e s k = ap (λ (y : Held). names (held_end y) e) (sym k) ∙ ap (λ
 -- ---- the own causes
 
 -- a reply is done exactly if no row holds
-done_is : (rows : List Row) → says_done (rows_reply rows) ≡ no_cause rows
+none_tested : (rows : List Row) → is_done (rows_reply rows) ≡ no_cause rows
 unfolding unless no_cause
-done_is [] = refl
-done_is (row ∷ rows) = go row.1 refl (done_is rows)
+none_tested [] = refl
+none_tested (row ∷ rows) = go row.1 refl (none_tested rows)
   where
-    go : (b : Bool) → row.1 ≡ b → says_done (rows_reply rows) ≡ no_cause rows
-        → says_done (rows_reply (row ∷ rows)) ≡ no_cause (row ∷ rows)
+    go : (b : Bool) → row.1 ≡ b → is_done (rows_reply rows) ≡ no_cause rows
+        → is_done (rows_reply (row ∷ rows)) ≡ no_cause (row ∷ rows)
     go true e rest = rw e refl
     go false e rest = rw e rest
 
-own_done : (g : Process) (i : rules.Instruction) {r : Reply} → r ≡ own_reply g i → says_done r ≡ no_cause (own_causes g i)
-own_done g i e = ap says_done e ∙ done_is (own_causes g i)
+own_done : (g : Process) (i : rules.Instruction) {r : Answer (Unit {0})} → r ≡ own_reply g i → is_done r ≡ no_cause (own_causes g i)
+own_done g i e = ap is_done e ∙ none_tested (own_causes g i)
 
 -- ---- an instruction
 
@@ -95,11 +93,11 @@ module _ (e : ℕ) (g : Process) (code : List ℕ) (place next : ℕ) where
   stands i = stands_named e g (instruction_of code place i) (wait_of (instruction_of code place i) next)
 
   -- the slot was compared and the own causes were asked
-  named : (c : ℕ) (j : rules.Instruction) {b there : Bool} {own : Reply} → b ≡ only_if there (says_done own)
+  named : (c : ℕ) (j : rules.Instruction) {b there : Bool} {own : Answer (Unit {0})} → b ≡ only_if there (is_done own)
       → there ≡ names (slot_at g c) e → own ≡ own_reply g j → b ≡ only_if (names (slot_at g c) e) (no_cause (own_causes g j))
   named c j h t o = h ∙ (λ k. only_if (t k) (own_done g j o k))
 
-  module _ {i : Instruction} {c : Slot} {b there : Bool} {own : Reply} (h : b ≡ only_if there (says_done own))
+  module _ {i : Instruction} {c : Slot} {b there : Bool} {own : Answer (Unit {0})} (h : b ≡ only_if there (is_done own))
       (t : there ≡ names (slot_at g (slot_number c)) e) where
     pub stands_get : i ≡ Get c → own ≡ own_reply g (rules.get (slot_number c)) → b ≡ stands i
     unfolding stands_named

@@ -1,3 +1,2 @@
 pub mod Lasts
 pub mod Counts
-pub mod Replies

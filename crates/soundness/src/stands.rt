@@ -2,17 +2,17 @@
 ghost use Rattle.std.specs.Prelude.{◌≡◌, true, List, ℕ, ◌<◌, length};
 ghost use Rattle.rules.specs.Limits.{record_count, end_count};
 ghost use Rattle.rules.specs.State.{Registers as Process, record_at, slot_at};
+ghost use Rattle.rules.specs.Refusal.{is_done};
 ghost use Rattle.rules.specs.Instruction.{lengths as lengths_of_rules};
 ghost use Rattle.rules.specs.Causes.{names};
 ghost use Rattle.rules.specs.EndStep.{wait_of, only_if};
 ghost use Rattle.rules.specs.Sound.{RegistersWithin};
 ghost use Rattle.rules.specs.SoundTest.{every, stands_named, stands_in, stands_test};
 ghost use Rattle.rules.specs.Layout.{state_size, view};
-ghost use Rattle.rules.specs.Numbers.{slot_number, end_number, record_number};
+ghost use Rattle.rules.specs.Numbers.{answer_of, slot_number, end_number, record_number};
 ghost use Rattle.code.specs.Meaning.{instruction_of};
 ghost use Rattle.registers.specs.Registers.{registers_of};
 ghost use Rattle.canonical.specs.Canonical.{canonical_bytes};
-ghost use Rattle.soundness.specs.Replies.{says_done};
 
 use crate::lasts::{Last, last_of};
 use code::{Decoded, Instruction, decode, length_table};
@@ -30,16 +30,10 @@ fn holds(held: Registers, c: Slot, e: End) -> bool
 }
 
 // The slot holds the end, and no own cause holds.
-fn stands_held(there: bool, own: Reply) -> bool
-    ensures { result ≡ only_if there (says_done own) }
+fn stands_held(there: bool, own: Result<(), Refusal>) -> bool
+    ensures { result ≡ only_if there (is_done (answer_of own)) }
 {
-    if !there {
-        return false;
-    }
-    match own {
-        Ok(()) => true,
-        Reply::Refused(_) => false,
-    }
+    there && own.is_ok()
 }
 
 // The registers wait for end e at instruction i.

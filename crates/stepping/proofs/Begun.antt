@@ -4,7 +4,7 @@ use mathlib.Core.Path.{◌≡◌, sym, ◌∙◌}
 use mathlib.Core.List.{List}
 use Prim.Native.Nat.{ℕ}
 use Rattle.rules.specs.State.{Registers as Process, running, record_at}
-use Rattle.rules.specs.Refusal.{done, NoCause, unless}
+use Rattle.rules.specs.Refusal.{done, NoCause, unless, Answer, refused}
 use Rattle.rules.specs.Instruction.{Instruction}
 use Rattle.rules.specs.Causes.{own_causes, shared_causes}
 use Rattle.rules.specs.RecordStep.{lowest_free, after}
@@ -14,8 +14,6 @@ use Rattle.rules.specs.Ask.{answer_to}
 use Rattle.rules.specs.Calls.{layout_or}
 use Rattle.rules.specs.Numbers.{reply_to}
 use Rattle.rules.specs.Promise.{Promise}
-use Rattle.rules.specs.declared.Reply.{Reply}
-use Rattle.rules.specs.declared.Reply.TheVariants.{Done, Refused}
 use Rattle.keeping.specs.Demand3.{SoundMemory}
 use Rattle.registers.specs.declared.Registers.{Registers}
 use Rattle.registers.specs.Registers.{registers_of}
@@ -25,18 +23,18 @@ use Rattle.stepping.specs.Stepped.{shown_by}
 use Rattle.stepping.proofs.Steps.{refused_step, Loads, loaded, shown_within, registers_ok, held_is}
 
 -- the registers x are loaded from record r of a sound memory, and the rows 5 to 11 of instruction i reply so of them
-pub record Begun (m : List ℕ) (r : ℕ) (i : Instruction) (x : Registers) (reply : Reply) : Type 0 where
+pub record Begun (m : List ℕ) (r : ℕ) (i : Instruction) (x : Registers) (reply : Answer (Unit {0})) : Type 0 where
   pub sound : SoundMemory m
   pub load_is : Loads m r x
   pub reply_is : (g : Process) → RegistersWithin g → x ≡ registers_of g → reply ≡ own_reply g i
 
 -- the reply is known
-pub told : {m : List ℕ} {r : ℕ} {i : Instruction} {x : Registers} {reply reply' : Reply} → Begun m r i x reply → reply ≡ reply'
+pub told : {m : List ℕ} {r : ℕ} {i : Instruction} {x : Registers} {reply reply' : Answer (Unit {0})} → Begun m r i x reply → reply ≡ reply'
     → Begun m r i x reply'
 told b e = record { sound = b.sound; load_is = b.load_is; reply_is = λ g w q. sym e ∙ b.reply_is g w q }
 
 -- where the record runs with registers g
-module _ {m : List ℕ} {r : ℕ} {i : Instruction} {x : Registers} {reply : Reply} (b : Begun m r i x reply) (g : Process)
+module _ {m : List ℕ} {r : ℕ} {i : Instruction} {x : Registers} {reply : Answer (Unit {0})} (b : Begun m r i x reply) (g : Process)
     (is : record_at (view m) r ≡ running g) where
   pub within : RegistersWithin g
   within = registers_ok m b.sound r g is
@@ -48,13 +46,13 @@ module _ {m : List ℕ} {r : ℕ} {i : Instruction} {x : Registers} {reply : Rep
   replied = b.reply_is g within held
 
 -- 5 to 11 are the answer
-pub own_step : {m : List ℕ} {r : ℕ} {i : Instruction} {x : Registers} {n : ℕ} → Begun m r i x (Refused n) → (next : ℕ) (g : Process)
+pub own_step : {m : List ℕ} {r : ℕ} {i : Instruction} {x : Registers} {n : ℕ} → Begun m r i x (refused n) → (next : ℕ) (g : Process)
     → record_at (view m) r ≡ running g
-    → Promise (reply_to (answer_to (view m) r next g i)) (layout_or m (answer_to (view m) r next g i)) (Refused n) m
+    → Promise (reply_to (answer_to (view m) r next g i)) (layout_or m (answer_to (view m) r next g i)) (refused n) m
 own_step {m} {r} {i} {x} {n} b next g is = refused_step n (own_refused (view m) r next g i n (sym (replied b g is)))
 
 -- none of them holds
-module _ {m : List ℕ} {r : ℕ} {i : Instruction} {x : Registers} (b : Begun m r i x Done) where
+module _ {m : List ℕ} {r : ℕ} {i : Instruction} {x : Registers} (b : Begun m r i x (done tt)) where
   -- whatever the record is
   pub shown : x ≡ registers_of (shown_by m r)
   shown = loaded m b.sound r b.load_is
@@ -64,7 +62,7 @@ module _ {m : List ℕ} {r : ℕ} {i : Instruction} {x : Registers} (b : Begun m
 
   -- where it runs with registers g
   module _ (g : Process) (is : record_at (view m) r ≡ running g) where
-    pub passes : own_reply g i ≡ Done
+    pub passes : own_reply g i ≡ (done tt)
     passes = sym (replied b g is)
 
     pub shared_left : (next : ℕ)

@@ -17,8 +17,6 @@ use Rattle.rules.specs.Sound.{RegistersWithin, RecordWithin}
 use Rattle.rules.specs.Calls.{layout_or}
 use Rattle.rules.specs.Numbers.{reply_to}
 use Rattle.rules.specs.Promise.{Promise}
-use Rattle.rules.specs.declared.Reply.{Reply}
-use Rattle.rules.specs.declared.Reply.TheVariants.{Done, Refused}
 use Rattle.keeping.specs.Demand3.{SoundMemory}
 use Rattle.keeping.proofs.LayoutLaws.{Sized}
 use Rattle.keeping.proofs.Running.{running_in_list}
@@ -30,15 +28,15 @@ use Rattle.stepping.specs.Stepped.{shown_by, RunsAt}
 
 -- ---- replies
 
-pub refused_step : {a : Answer State} {m : List ℕ} (n : ℕ) → a ≡ refused n → Promise (reply_to a) (layout_or m a) (Refused n) m
+pub refused_step : {a : Answer State} {m : List ℕ} (n : ℕ) → a ≡ refused n → Promise (reply_to a) (layout_or m a) (refused n) m
 refused_step {m = m} n e = record { answer_is = ap reply_to (sym e); memory_is = ap (layout_or m) (sym e) }
 
 pub done_step : {a : Answer State} (m : List ℕ) {left : List ℕ} (st : State) → a ≡ done st → left ≡ layout st
-    → Promise (reply_to a) (layout_or m a) Done left
+    → Promise (reply_to a) (layout_or m a) (done tt) left
 done_step m st e q = record { answer_is = ap reply_to (sym e); memory_is = q ∙ ap (layout_or m) (sym e) }
 
 -- a promise is one about an equal answer
-pub promised_as : {a b : Answer State} (m : List ℕ) {reply : Reply} {left : List ℕ} → a ≡ b
+pub promised_as : {a b : Answer State} (m : List ℕ) {reply : Answer (Unit {0})} {left : List ℕ} → a ≡ b
     → Promise (reply_to b) (layout_or m b) reply left → Promise (reply_to a) (layout_or m a) reply left
 promised_as m {reply} {left} q p = subst (λ (x : Answer State). Promise (reply_to x) (layout_or m x) reply left) (sym q) p
 

@@ -6,9 +6,8 @@ use Rattle.rules.specs.Instruction.{Instruction}
 use Rattle.rules.specs.Ask.{answer_to}
 use Rattle.rules.specs.Layout.{view}
 use Rattle.rules.specs.Calls.{layout_or}
-use Rattle.rules.specs.Numbers.{reply_to}
+use Rattle.rules.specs.Numbers.{Reply, answer_of, reply_to}
 use Rattle.rules.specs.Promise.{Promise}
-use Rattle.rules.specs.declared.Reply.{Reply}
 use Rattle.registers.specs.Registers.{registers_in}
 
 -- record r runs with registers g in the state that m shows: the reply and the memory left are those of instruction i, with `next` the place
@@ -16,7 +15,7 @@ use Rattle.registers.specs.Registers.{registers_in}
 abbrev pub Stepped : (m : List ℕ) (r next : ℕ) → Instruction → Reply → (left : List ℕ) → Type 0
 Stepped m r next i reply left =
     (g : Registers) → record_at (view m) r ≡ running g
-    → Promise (reply_to (answer_to (view m) r next g i)) (layout_or m (answer_to (view m) r next g i)) reply left
+    → Promise (reply_to (answer_to (view m) r next g i)) (layout_or m (answer_to (view m) r next g i)) (answer_of reply) left
 
 -- the registers that record r shows in memory m; a free record shows those with nothing in them
 abbrev pub shown_by : List ℕ → (r : ℕ) → Registers

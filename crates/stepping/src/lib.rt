@@ -12,7 +12,7 @@ ghost use Rattle.keeping.specs.Demand3.{SoundMemory};
 ghost use Rattle.registers.specs.Registers.{registers_of};
 
 use registers::{Held, Registers};
-use rules::{End, Slot, END_COUNT};
+use rules::{END_COUNT, End, Slot};
 
 // The translation of a local slot to an end. An empty slot stands for no end.
 pub fn own_end(held: Registers, c: Slot) -> End

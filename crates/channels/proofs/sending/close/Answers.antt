@@ -3,7 +3,6 @@ use Rattle.std.proofs.Common.{refl, ◌∙◌}
 use Rattle.rules.specs.Instruction.{close}
 use Rattle.rules.specs.Causes.{shared_causes}
 use Rattle.rules.specs.RecordStep.{after}
-use Rattle.rules.specs.declared.Reply.TheVariants.{Done}
 use Rattle.keeping.proofs.Memories.{memory_length}
 use Rattle.stepping.proofs.Steps.{registers_ok}
 use Rattle.stepping.proofs.Begun.{Begun, told, own_step, shared_left}
@@ -11,6 +10,7 @@ use Rattle.channels.proofs.Answers.{holds_end, runs_here, full_step, sent}
 use Rattle.channels.proofs.Named.{close_named}
 use Rattle.channels.proofs.sending.close.Goals as goal
 use Rattle.channels.proofs.sending.close.Goals.{After-close, In_default}
+use Rattle.rules.specs.Refusal.{refused, done}
 
 pub load-held-requires : goal.load-held-requires
 load-held-requires c = (memory_length _ c.requires.0, c.requires.1)
@@ -21,22 +21,22 @@ begun : (c : After-close) → let a = c.args in
 begun c =
     record { sound = c.requires.0; load_is = c.load-held.ensures; reply_is = c.close.ensures }
 
-pub returns-in-Refused : goal.returns-in-Refused
-returns-in-Refused c g is = own_step (told (begun (goal.at.returns-in-Refused c).After-close) c.in-Refused.is) _ g is
+pub returns-in-refused : goal.returns-in-refused
+returns-in-refused c g is = own_step (told (begun (goal.at.returns-in-refused c).After-close) c.in-refused.is) _ g is
 
 -- no row 5 to 11 holds
 passed : (c : In_default) → let a = c.args in
-    Begun a.m.now a.r.0 (close a.c.0) c.load-held.result Done
+    Begun a.m.now a.r.0 (close a.c.0) c.load-held.result (done tt)
 passed c = told (begun c.before) c.in_default.is
 
 pub append-requires : goal.append-requires
 append-requires c = holds_end (passed (goal.at.append-requires c).In_default) _ (close_named _)
 
-pub returns-in-Refused-append : goal.returns-in-Refused-append
+pub returns-in-refused-append : goal.returns-in-refused-append
 unfolding shared_causes
-returns-in-Refused-append c g is =
-    let b = passed (goal.at.returns-in-Refused-append c).In_default in
-    full_step (c.append.ensures _ g (runs_here b _ (close_named _) g is)) c.in-Refused-append.is _ (shared_left b g is _)
+returns-in-refused-append c g is =
+    let b = passed (goal.at.returns-in-refused-append c).In_default in
+    full_step (c.append.ensures _ g (runs_here b _ (close_named _) g is)) c.in-refused-append.is _ (shared_left b g is _)
 
 pub save_running-requires : goal.save_running-requires
 save_running-requires c = (c.append.auto.m ∙ memory_length _ c.requires.0, c.requires.1)

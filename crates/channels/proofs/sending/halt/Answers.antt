@@ -3,13 +3,13 @@ use Rattle.std.proofs.Common.{refl, ◌∙◌}
 use Rattle.rules.specs.Instruction.{halt}
 use Rattle.rules.specs.Causes.{shared_causes}
 use Rattle.rules.specs.RecordStep.{after}
-use Rattle.rules.specs.declared.Reply.TheVariants.{Done}
 use Rattle.keeping.proofs.Memories.{memory_length}
 use Rattle.stepping.proofs.Begun.{Begun, told, own_step, shared_left}
 use Rattle.channels.proofs.Answers.{holds_end, runs_here, full_step, sent}
 use Rattle.channels.proofs.Named.{halt_named}
 use Rattle.channels.proofs.sending.halt.Goals as goal
 use Rattle.channels.proofs.sending.halt.Goals.{After-halt, In_default}
+use Rattle.rules.specs.Refusal.{refused, done}
 
 pub load-held-requires : goal.load-held-requires
 load-held-requires c = (memory_length _ c.requires.0, c.requires.1)
@@ -20,22 +20,22 @@ begun : (c : After-halt) → let a = c.args in
 begun c =
     record { sound = c.requires.0; load_is = c.load-held.ensures; reply_is = c.halt.ensures }
 
-pub returns-in-Refused : goal.returns-in-Refused
-returns-in-Refused c next g is = own_step (told (begun (goal.at.returns-in-Refused c).After-halt) c.in-Refused.is) _ g is
+pub returns-in-refused : goal.returns-in-refused
+returns-in-refused c next g is = own_step (told (begun (goal.at.returns-in-refused c).After-halt) c.in-refused.is) _ g is
 
 -- no row 5 to 11 holds
 passed : (c : In_default) → let a = c.args in
-    Begun a.m.now a.r.0 (halt a.c.0) c.load-held.result Done
+    Begun a.m.now a.r.0 (halt a.c.0) c.load-held.result (done tt)
 passed c = told (begun c.before) c.in_default.is
 
 pub append-requires : goal.append-requires
 append-requires c = holds_end (passed (goal.at.append-requires c).In_default) _ (halt_named _)
 
-pub returns-in-Refused-append : goal.returns-in-Refused-append
+pub returns-in-refused-append : goal.returns-in-refused-append
 unfolding shared_causes
-returns-in-Refused-append c next g is =
-    let b = passed (goal.at.returns-in-Refused-append c).In_default in
-    full_step (c.append.ensures _ g (runs_here b _ (halt_named _) g is)) c.in-Refused-append.is _ (shared_left b g is _)
+returns-in-refused-append c next g is =
+    let b = passed (goal.at.returns-in-refused-append c).In_default in
+    full_step (c.append.ensures _ g (runs_here b _ (halt_named _) g is)) c.in-refused-append.is _ (shared_left b g is _)
 
 pub clear-requires : goal.clear-requires
 clear-requires c = (c.append.auto.m ∙ memory_length _ c.requires.0, c.requires.1)

@@ -3,10 +3,9 @@ use Rattle.std.proofs.Common.{◌≡◌, sym, ap, ◌∙◌, subst, false, ℕ, 
 use Rattle.rules.specs.State.{Registers as Process, Value, datum, value}
 use Rattle.rules.specs.Instruction.{put}
 use Rattle.rules.specs.Causes.{fewer, own_causes, shared_causes}
-use Rattle.rules.specs.Refusal.{NoCause}
+use Rattle.rules.specs.Refusal.{NoCause, refused, done}
 use Rattle.rules.specs.RecordStep.{after}
 use Rattle.rules.specs.Sound.{ValueWithin}
-use Rattle.rules.specs.declared.Reply.TheVariants.{Done}
 use Rattle.keeping.proofs.Memories.{memory_length}
 use Rattle.registers.specs.Registers.{popped}
 use Rattle.registers.proofs.Fields.{by_fields}
@@ -27,12 +26,12 @@ begun : (c : After-put) → let a = c.args in
 begun c =
     record { sound = c.requires.0; load_is = c.load-held.ensures; reply_is = c.put.ensures }
 
-pub returns-in-Refused : goal.returns-in-Refused
-returns-in-Refused c g is = own_step (told (begun (goal.at.returns-in-Refused c).After-put) c.in-Refused.is) _ g is
+pub returns-in-refused : goal.returns-in-refused
+returns-in-refused c g is = own_step (told (begun (goal.at.returns-in-refused c).After-put) c.in-refused.is) _ g is
 
 -- no row 5 to 11 holds
 passed : (c : In_default) → let a = c.args in
-    Begun a.m.now a.r.0 (put a.c.0) c.load-held.result Done
+    Begun a.m.now a.r.0 (put a.c.0) c.load-held.result (done tt)
 passed c = told (begun c.before) c.in_default.is
 
 -- the stack is not empty
@@ -50,11 +49,11 @@ pop-popped-requires c =
 pub append-requires : goal.append-requires
 append-requires c = holds_end (passed (goal.at.append-requires c).In_default) _ (put_named _)
 
-pub returns-in-Refused-append : goal.returns-in-Refused-append
+pub returns-in-refused-append : goal.returns-in-refused-append
 unfolding shared_causes
-returns-in-Refused-append c g is =
-    let b = passed (goal.at.returns-in-Refused-append c).In_default in
-    full_step (c.append.ensures _ g (runs_here b _ (put_named _) g is)) c.in-Refused-append.is _ (shared_left b g is _)
+returns-in-refused-append c g is =
+    let b = passed (goal.at.returns-in-refused-append c).In_default in
+    full_step (c.append.ensures _ g (runs_here b _ (put_named _) g is)) c.in-refused-append.is _ (shared_left b g is _)
 
 pub save_running-requires : goal.save_running-requires
 save_running-requires c = (c.append.auto.m ∙ memory_length _ c.requires.0, c.requires.1)

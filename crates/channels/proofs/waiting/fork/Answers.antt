@@ -2,13 +2,13 @@
 use Rattle.rules.specs.Instruction.{Instruction, fork}
 use Rattle.rules.specs.Causes.{shared_causes}
 use Rattle.rules.specs.RecordStep.{after}
-use Rattle.rules.specs.declared.Reply.TheVariants.{Done}
 use Rattle.keeping.proofs.Memories.{memory_length}
 use Rattle.stepping.proofs.Begun.{Begun, told, own_step, shared_left}
 use Rattle.channels.proofs.Answers.{holds_end, runs_here, waited_step}
 use Rattle.channels.proofs.Named.{fork_named}
 use Rattle.channels.proofs.waiting.fork.Goals as goal
 use Rattle.channels.proofs.waiting.fork.Goals.{After-fork, In_default, Start}
+use Rattle.rules.specs.Refusal.{refused, done}
 
 pub load-held-requires : goal.load-held-requires
 load-held-requires c = (memory_length _ c.requires.0, c.requires.1)
@@ -24,11 +24,11 @@ begun : (c : After-fork) → Begun c.args.m.now c.args.r.0 (this c.before.before
 begun c =
     record { sound = c.requires.0; load_is = c.load-held.ensures; reply_is = c.fork.ensures }
 
-pub returns-in-Refused : goal.returns-in-Refused
-returns-in-Refused c next g is = own_step (told (begun (goal.at.returns-in-Refused c).After-fork) c.in-Refused.is) _ g is
+pub returns-in-refused : goal.returns-in-refused
+returns-in-refused c next g is = own_step (told (begun (goal.at.returns-in-refused c).After-fork) c.in-refused.is) _ g is
 
 -- no row 5 to 11 holds
-passed : (c : In_default) → Begun c.args.m.now c.args.r.0 (this c.before.before.before.before) c.load-held.result Done
+passed : (c : In_default) → Begun c.args.m.now c.args.r.0 (this c.before.before.before.before) c.load-held.result (done tt)
 passed c = told (begun c.before) c.in_default.is
 
 pub wait_at-requires : goal.wait_at-requires

@@ -2,13 +2,13 @@
 use Rattle.rules.specs.Instruction.{get}
 use Rattle.rules.specs.Causes.{shared_causes}
 use Rattle.rules.specs.RecordStep.{after}
-use Rattle.rules.specs.declared.Reply.TheVariants.{Done}
 use Rattle.keeping.proofs.Memories.{memory_length}
 use Rattle.stepping.proofs.Begun.{Begun, told, own_step, shared_left}
 use Rattle.channels.proofs.Answers.{holds_end, runs_here, waited_step}
 use Rattle.channels.proofs.Named.{get_named}
 use Rattle.channels.proofs.waiting.get.Goals as goal
 use Rattle.channels.proofs.waiting.get.Goals.{After-get, In_default}
+use Rattle.rules.specs.Refusal.{refused, done}
 
 pub load-held-requires : goal.load-held-requires
 load-held-requires c = (memory_length _ c.requires.0, c.requires.1)
@@ -19,12 +19,12 @@ begun : (c : After-get) → let a = c.args in
 begun c =
     record { sound = c.requires.0; load_is = c.load-held.ensures; reply_is = c.get.ensures }
 
-pub returns-in-Refused : goal.returns-in-Refused
-returns-in-Refused c next g is = own_step (told (begun (goal.at.returns-in-Refused c).After-get) c.in-Refused.is) _ g is
+pub returns-in-refused : goal.returns-in-refused
+returns-in-refused c next g is = own_step (told (begun (goal.at.returns-in-refused c).After-get) c.in-refused.is) _ g is
 
 -- no row 5 to 11 holds
 passed : (c : In_default) → let a = c.args in
-    Begun a.m.now a.r.0 (get a.c.0) c.load-held.result Done
+    Begun a.m.now a.r.0 (get a.c.0) c.load-held.result (done tt)
 passed c = told (begun c.before) c.in_default.is
 
 pub wait_at-requires : goal.wait_at-requires

@@ -3,13 +3,13 @@ use Rattle.std.proofs.Common.{List, [], ℕ}
 use Rattle.rules.specs.Instruction.{hcase}
 use Rattle.rules.specs.Causes.{shared_causes}
 use Rattle.rules.specs.RecordStep.{after}
-use Rattle.rules.specs.declared.Reply.TheVariants.{Done}
 use Rattle.keeping.proofs.Memories.{memory_length}
 use Rattle.stepping.proofs.Begun.{Begun, told, own_step, shared_left}
 use Rattle.channels.proofs.Answers.{holds_end, runs_here, waited_step}
 use Rattle.channels.proofs.Named.{hcase_named}
 use Rattle.channels.proofs.waiting.hcase.Goals as goal
 use Rattle.channels.proofs.waiting.hcase.Goals.{After-hcase, In_default}
+use Rattle.rules.specs.Refusal.{refused, done}
 
 pub load-held-requires : goal.load-held-requires
 load-held-requires c = (memory_length _ c.requires.0, c.requires.1)
@@ -24,12 +24,12 @@ begun c places =
       reply_is = λ g w e. c.hcase.ensures g places w e;
     }
 
-pub returns-in-Refused : goal.returns-in-Refused
-returns-in-Refused c next places g is = own_step (told (begun (goal.at.returns-in-Refused c).After-hcase places) c.in-Refused.is) _ g is
+pub returns-in-refused : goal.returns-in-refused
+returns-in-refused c next places g is = own_step (told (begun (goal.at.returns-in-refused c).After-hcase places) c.in-refused.is) _ g is
 
 -- no row 5 to 11 holds
 passed : (c : In_default) (places : List ℕ) → let a = c.args in
-    Begun a.m.now a.r.0 (hcase a.c.0 places) c.load-held.result Done
+    Begun a.m.now a.r.0 (hcase a.c.0 places) c.load-held.result (done tt)
 passed c places = told (begun c.before places) c.in_default.is
 
 pub wait_at-requires : goal.wait_at-requires

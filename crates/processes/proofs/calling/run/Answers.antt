@@ -2,7 +2,6 @@
 use Rattle.std.proofs.Common.{arith}
 use Rattle.rules.specs.Instruction.{Instruction, slots_at, run}
 use Rattle.rules.specs.Layout.{view}
-use Rattle.rules.specs.declared.Reply.TheVariants.{Done}
 use Rattle.keeping.proofs.Memories.{memory_length}
 use Rattle.registers.proofs.Fields.{by_fields}
 use Rattle.stepping.proofs.Steps.{done_step, memory_sized, in_range}
@@ -10,6 +9,7 @@ use Rattle.stepping.proofs.Begun.{Begun, told, within, held, own_step, passes}
 use Rattle.processes.proofs.CallCases.{enough, run_done}
 use Rattle.processes.proofs.calling.run.Goals as goal
 use Rattle.processes.proofs.calling.run.Goals.{After-refusal, In_default, Start}
+use Rattle.rules.specs.Refusal.{refused, done}
 
 pub load-held-requires : goal.load-held-requires
 load-held-requires c = let p = c.requires in (memory_length _ p.0, in_range _ p.0 _ p.1)
@@ -28,11 +28,11 @@ begun c =
       reply_is = λ g w e. c.refusal.ensures g c.args.place w e;
     }
 
-pub returns-in-Refused : goal.returns-in-Refused
-returns-in-Refused c next g is = own_step (told (begun (goal.at.returns-in-Refused c).After-refusal) c.in-Refused.is) next g is
+pub returns-in-refused : goal.returns-in-refused
+returns-in-refused c next g is = own_step (told (begun (goal.at.returns-in-refused c).After-refusal) c.in-refused.is) next g is
 
 -- no row holds
-passed : (c : In_default) → Begun c.args.m.now c.args.r.0 (this c.before.before.before.before) c.load-held.result Done
+passed : (c : In_default) → Begun c.args.m.now c.args.r.0 (this c.before.before.before.before) c.load-held.result (done tt)
 passed c = told (begun c.before) c.in_default.is
 
 pub callee-after-requires : goal.callee-after-requires

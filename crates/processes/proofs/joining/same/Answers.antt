@@ -4,13 +4,13 @@ use Rattle.rules.specs.State.{Registers as Process, running, record_at, end_in, 
 use Rattle.rules.specs.Instruction.{same}
 use Rattle.rules.specs.Layout.{layout, view}
 use Rattle.rules.specs.Numbers.{end_number}
-use Rattle.rules.specs.declared.Reply.TheVariants.{Done}
 use Rattle.stepping.proofs.Steps.{refused_step, done_step, memory_sized}
 use Rattle.stepping.proofs.Begun.{Begun, told, within, held, own_step, passes}
 use Rattle.processes.specs.Joinable.{shared_reply}
 use Rattle.processes.proofs.JoinCases.{first_end, second_end, joinable, shared_refused, same_done, sized_joined, same_after}
 use Rattle.processes.proofs.joining.same.Goals as goal
 use Rattle.processes.proofs.joining.same.Goals.{After-own_end-x, After-own_end-y, After-refusal, After-same, In_default}
+use Rattle.rules.specs.Refusal.{refused, done}
 
 -- the registers are loaded and `causes` has replied
 begun : (c : After-same) → let a = c.args in
@@ -18,12 +18,12 @@ begun : (c : After-same) → let a = c.args in
 begun c =
     record { sound = c.requires.sound_memory.0; load_is = c.load-held.ensures; reply_is = c.same.ensures }
 
-pub returns-in-Refused : goal.returns-in-Refused
-returns-in-Refused c next g is = own_step (told (begun (goal.at.returns-in-Refused c).After-same) c.in-Refused.is) next g is
+pub returns-in-refused : goal.returns-in-refused
+returns-in-refused c next g is = own_step (told (begun (goal.at.returns-in-refused c).After-same) c.in-refused.is) next g is
 
 -- no row 5 to 11 holds
 passed : (c : In_default) → let a = c.args in
-    Begun a.m.now a.r.0 (same a.c.0 a.d.0) c.load-held.result Done
+    Begun a.m.now a.r.0 (same a.c.0 a.d.0) c.load-held.result (done tt)
 passed c = told (begun c.before) c.in_default.is
 
 -- the ends that are found
@@ -60,13 +60,13 @@ shared c g is =
     c.refusal.ensures (view m) g (memory_sized m s) s.laid_out x (second c.before g is)
     (ap (λ (e : ℕ). is_free_end (end_at (view m) e)) x ∙ used_x)
 
-pub returns-in-Refused-refusal : goal.returns-in-Refused-refusal
-returns-in-Refused-refusal c next g is =
+pub returns-in-refused-refusal : goal.returns-in-refused-refusal
+returns-in-refused-refusal c next g is =
     let a = c.args in
     let s = c.requires.sound_memory.0.state_sound in
     refused_step _
-    (shared_refused (view a.m.now) s a.r.0 g is a.c.0 a.d.0 (passes (passed (goal.at.returns-in-Refused-refusal c).In_default) g is) next _
-    (sym (shared (goal.at.returns-in-Refused-refusal c).After-refusal g is) ∙ c.in-Refused-refusal.is))
+    (shared_refused (view a.m.now) s a.r.0 g is a.c.0 a.d.0 (passes (passed (goal.at.returns-in-refused-refusal c).In_default) g is) next _
+    (sym (shared (goal.at.returns-in-refused-refusal c).After-refusal g is) ∙ c.in-refused-refusal.is))
 
 pub join-requires : goal.join-requires
 join-requires c =

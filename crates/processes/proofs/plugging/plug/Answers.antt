@@ -4,7 +4,6 @@ use Rattle.rules.specs.State.{lowest_free_record}
 use Rattle.rules.specs.Instruction.{Instruction, plug}
 use Rattle.rules.specs.Causes.{few_free_ends, no_free_record}
 use Rattle.rules.specs.Layout.{view, free_word}
-use Rattle.rules.specs.declared.Reply.TheVariants.{Done}
 use Rattle.keeping.proofs.Memories.{memory_length}
 use Rattle.stepping.proofs.Steps.{refused_step, done_step, memory_sized, in_range}
 use Rattle.stepping.proofs.FreeEnds.{few_ends, enough_ends}
@@ -14,6 +13,7 @@ use Rattle.processes.proofs.PlugCases.{too_few_ends, no_free_record_lem, plugged
 use Rattle.processes.proofs.plugging.plug.Goals as goal
 use Rattle.processes.proofs.plugging.plug.Goals.{After-free_word-word, After-lowest_free_record-new, After-plug, Else-count-lt2, Else-new}
 use Rattle.processes.proofs.plugging.plug.Goals.{In_default, Start}
+use Rattle.rules.specs.Refusal.{refused, done}
 
 pub load-held-requires : goal.load-held-requires
 load-held-requires c = let p = c.requires in (memory_length _ p.0, in_range _ p.0 _ p.1)
@@ -27,11 +27,11 @@ begun : (c : After-plug) → Begun c.args.m.now c.args.r.0 (this c.before.before
 begun c =
     record { sound = c.requires.0; load_is = c.load-held.ensures; reply_is = c.plug.ensures }
 
-pub returns-in-Refused : goal.returns-in-Refused
-returns-in-Refused c next g is = own_step (told (begun (goal.at.returns-in-Refused c).After-plug) c.in-Refused.is) next g is
+pub returns-in-refused : goal.returns-in-refused
+returns-in-refused c next g is = own_step (told (begun (goal.at.returns-in-refused c).After-plug) c.in-refused.is) next g is
 
 -- no row 5 to 11 holds
-passed : (c : In_default) → Begun c.args.m.now c.args.r.0 (this c.before.before.before.before) c.load-held.result Done
+passed : (c : In_default) → Begun c.args.m.now c.args.r.0 (this c.before.before.before.before) c.load-held.result (done tt)
 passed c = told (begun c.before) c.in_default.is
 
 pub free_word-word-requires : goal.free_word-word-requires
