@@ -10,7 +10,11 @@ use Rattle.rules.specs.Causes.{empty, own_causes, queue_full}
 use Rattle.rules.specs.RecordStep.{append, waits}
 use Rattle.rules.specs.Layout.{layout, view}
 use Rattle.rules.specs.Calls.{layout_or}
-use Rattle.rules.specs.Numbers.{reply_to}
+use Rattle.std.specs.Prelude.{Ok, Err}
+use Rattle.std.specs.Result.{IsErrAnd}
+use Rattle.rules.specs.declared.Refusal.{Refusal}
+use Rattle.rules.specs.Numbers.{Reply, answer_of, reply_to}
+use Rattle.rules.proofs.Promises.{handed_on}
 use Rattle.rules.specs.Promise.{Promise}
 use Rattle.keeping.specs.Demand3.{SoundMemory}
 use Rattle.keeping.proofs.LayoutLaws.{Sized}
@@ -50,31 +54,28 @@ unfolding unless
 room_case true x y m p = refused_not_done (sym p.answer_is)
 room_case false x y m p = (p.memory_is, refl)
 
-module _ {m : List ℕ} {g : Process} {c : ℕ} {y : Item} {reply : Answer (Unit {0})} {left : List ℕ} (p : Appended m g c y reply left) where
-  promised : (reply' : Answer (Unit {0})) → reply ≡ reply'
-      → let a = unless_full (view m) g c (append (view m) (end_in g c) y) in Promise (reply_to a) (layout_or m a) reply' left
-  promised reply' e = record { answer_is = sym e ∙ p.appended.answer_is; memory_is = p.appended.memory_is }
-
-  -- 13 is the answer
-  pub full_step : {n : ℕ} → reply ≡ refused n → (st : State) {a : Answer State} → a ≡ unless_full (view m) g c st
-      → Promise (reply_to a) (layout_or m a) (refused n) left
-  full_step e st q = rw q (full_case (queue_full (view m) c g) (append (view m) (end_in g c) y) st m (promised _ e))
+module _ {m : List ℕ} {g : Process} {c : ℕ} {y : Item} {left : List ℕ} where
+  -- 13 is the answer, which `?` hands on
+  pub full_step : (reply : Reply) (e : Refusal) → IsErrAnd reply (λ (f : Refusal). f ≡ e) → Appended m g c y (Err e) left
+      → (st : State) {a : Answer State} → a ≡ unless_full (view m) g c st → Promise (reply_to a) (layout_or m a) (answer_of reply) left
+  full_step reply e h p st q =
+      rw (handed_on reply e h, q) (full_case (queue_full (view m) c g) (append (view m) (end_in g c) y) st m p.appended)
 
   -- the item y' stands on the queue, and record r is put anew
-  pub sent : reply ≡ (done tt) → SoundMemory m → {y' : Item} → y ≡ y' → (r : ℕ) (z : RecordState) {exit : List ℕ}
+  pub sent : Appended m g c y (Ok tt) left → SoundMemory m → {y' : Item} → y ≡ y' → (r : ℕ) (z : RecordState) {exit : List ℕ}
       → ((st : State) → Sized st → left ≡ layout st → exit ≡ layout (set_record st r z)) → {a : Answer State}
       → a ≡ unless_full (view m) g c (set_record (append (view m) (end_in g c) y') r z) → Promise (reply_to a) (layout_or m a) (done tt) exit
-  sent e s {y'} same r z save q =
+  sent p s {y'} same r z save q =
       let st = append (view m) (end_in g c) y' in
-      let goes = room_case (queue_full (view m) c g) (append (view m) (end_in g c) y) (set_record st r z) m (promised (done tt) e) in
+      let goes = room_case (queue_full (view m) c g) (append (view m) (end_in g c) y) (set_record st r z) m p.appended in
       let item_is = ap (λ (i : Item). layout (append (view m) (end_in g c) i)) same in
       done_step m _ (q ∙ goes.1) (save st (sized_anew (view m) (end_in g c) _ (memory_sized m s)) (goes.0 ∙ item_is))
 
-pub waited_step : {m : List ℕ} {r : ℕ} {g : Process} {c : ℕ} {reply : Answer (Unit {0})} {left : List ℕ} → Waited m r g c reply left
-    → {a : Answer State} → a ≡ unless_full (view m) g c (waits (view m) r g c) → Promise (reply_to a) (layout_or m a) reply left
+pub waited_step : {m : List ℕ} {r : ℕ} {g : Process} {c : ℕ} {reply : Reply} {left : List ℕ} → Waited m r g c reply left
+    → {a : Answer State} → a ≡ unless_full (view m) g c (waits (view m) r g c) → Promise (reply_to a) (layout_or m a) (answer_of reply) left
 waited_step w q = promised_as _ q w.waited
 
-pub shared_step : {m : List ℕ} {r next : ℕ} {g : Process} {i : Instruction} {reply : Answer (Unit {0})} {left : List ℕ}
+pub shared_step : {m : List ℕ} {r next : ℕ} {g : Process} {i : Instruction} {reply : Reply} {left : List ℕ}
     → SharedStep m r next g i reply left → {a : Answer State} → a ≡ shared_answer (view m) r next g i
-    → Promise (reply_to a) (layout_or m a) reply left
+    → Promise (reply_to a) (layout_or m a) (answer_of reply) left
 shared_step h q = promised_as _ q h.shared

@@ -7,7 +7,9 @@ use Prim.Native.Nat.{ℕ, ◌≤◌, ◌<◌}
 use borrow.Author.Tests.{le-leb, lt-leb}
 use Rattle.rules.specs.Limits.{queue_depth}
 use Rattle.rules.specs.State.{State, Registers as Process, Item, end_at, end_in, queue_length, is_free_end, last_of}
+use Rattle.std.specs.Prelude.{Ok, Err}
 use Rattle.rules.specs.Refusal.{refused, done, unless}
+use Rattle.rules.specs.declared.Refusal.TheVariants.{QueueFull}
 use Rattle.rules.specs.Causes.{queue_full}
 use Rattle.rules.specs.RecordStep.{append}
 use Rattle.rules.specs.Layout.{layout, view}
@@ -38,13 +40,13 @@ module _ {m : List ℕ} (s : SoundMemory m) {r : ℕ} {x : Registers} {g : Proce
   pub not_full : q < queue_depth → queue_full (view m) c g ≡ false
   not_full l = lt-leb queue_depth _ (subst (λ (k : ℕ). k < queue_depth) count_is l)
 
-  pub not_appended : queue_depth ≤ q → (y : Item) → Appended m g c y (refused 13) m
+  pub not_appended : queue_depth ≤ q → (y : Item) → Appended m g c y (Err QueueFull) m
   not_appended l y = record { appended = refused_step 13 (is_full (view m) g c _ (full l)) }
 
   pub item_appended : q < queue_depth → (y : Item) {left : List ℕ}
       → ((st : State) → Sized st → m ≡ layout st → is_free_end (end_at st e) ≡ false → last_of (end_at st e) ≡ none
       → left ≡ layout (append st e y))
-      → Appended m g c y (done tt) left
+      → Appended m g c y (Ok tt) left
   item_appended l y written =
       let mine = own s h e is in
       let w = written (view m) (memory_sized m s) s.laid_out mine.in_use mine.no_last in

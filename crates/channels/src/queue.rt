@@ -7,7 +7,7 @@ ghost use Rattle.channels.specs.Appending.{HoldsEnd, Runs, Appended};
 
 use ends::Item;
 use registers::Registers;
-use rules::{Refusal, Slot, QUEUE_DEPTH};
+use rules::{QUEUE_DEPTH, Refusal, Slot};
 
 // 13, or an item is appended to the queue of slot c's end.
 pub fn append(m: &mut [u8], held: Registers, c: Slot, item: Item) -> Result<(), Refusal>

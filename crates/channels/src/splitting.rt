@@ -21,7 +21,7 @@ ghost use Rattle.channels.specs.Splitting.{FourWithin, SharedStep};
 use ends::word::FourEnds;
 use ends::{Item, word};
 use registers::Registers;
-use rules::{End, Record, Refusal, Slot, QUEUE_DEPTH};
+use rules::{End, QUEUE_DEPTH, Record, Refusal, Slot};
 
 // The split is appended to an end's queue, and four free ends become two pairs.
 fn split_ends(m: &mut [u8], end: End, new: FourEnds)
@@ -61,7 +61,15 @@ fn split_registers(
 }
 
 // 13, 15, or the state after a split whose rows 5 to 11 do not hold.
-fn split_at(m: &mut [u8], r: Record, held: Registers, c: Slot, a: Slot, b: Slot, next: u16) -> Result<(), Refusal>
+fn split_at(
+    m: &mut [u8],
+    r: Record,
+    held: Registers,
+    c: Slot,
+    a: Slot,
+    b: Slot,
+    next: u16,
+) -> Result<(), Refusal>
     requires holds_end { HoldsEnd m.old held (slot_number c) }
     requires r_bound { record_number r < record_count }
     ensures { (g : Process) → Runs m.old (record_number r) held g (slot_number c)

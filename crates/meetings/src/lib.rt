@@ -18,7 +18,7 @@ ghost use Rattle.meetings.specs.Stepped.{Met, EndStepped};
 
 use ends::{Head, Item};
 use heads::{Meeting, meeting_of};
-use rules::{End, Refusal, END_COUNT};
+use rules::{END_COUNT, End, Refusal};
 
 mod heads; // heads.rt: what the heads of two queues make
 mod wanted; // wanted.rt: what a waiting record wants

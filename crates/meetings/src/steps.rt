@@ -17,7 +17,7 @@ ghost use Rattle.meetings.specs.Stepped.{Met, DatumMet, SplitMet};
 use crate::heads::Datum;
 use crate::wanted::{Wanted, wanted_at};
 use registers::Registers;
-use rules::{End, Record, Refusal, RECORD_COUNT};
+use rules::{End, RECORD_COUNT, Record, Refusal};
 
 // Both heads are removed, and record r runs with these registers.
 fn take_both(m: &mut [u8], from: End, to: End, r: Record, x: Registers)
@@ -35,7 +35,14 @@ fn take_both(m: &mut [u8], from: End, to: End, r: Record, x: Registers)
 }
 
 // A value against a get: the record runs on after the get, value pushed.
-fn deliver_value(m: &mut [u8], lengths: &[u8; 256], from: End, to: End, v: i32, r: Record) -> Result<(), Refusal>
+fn deliver_value(
+    m: &mut [u8],
+    lengths: &[u8; 256],
+    from: End,
+    to: End,
+    v: i32,
+    r: Record,
+) -> Result<(), Refusal>
     requires sound_memory { SoundMemory m.old × (lengths.now ≡ lengths_of_rules) }
     requires datum_waits { DatumWaits (view m.old) (end_number from) (end_number to) (value v) (record_number r) }
     ensures { DatumMet m.old (end_number from) (end_number to) (record_number r) (value v) result m.new }
@@ -50,7 +57,14 @@ fn deliver_value(m: &mut [u8], lengths: &[u8; 256], from: End, to: End, v: i32, 
 }
 
 // A handle n against an hcase of k places with n < k: the record runs at place n.
-fn deliver_handle(m: &mut [u8], lengths: &[u8; 256], from: End, to: End, n: u8, r: Record) -> Result<(), Refusal>
+fn deliver_handle(
+    m: &mut [u8],
+    lengths: &[u8; 256],
+    from: End,
+    to: End,
+    n: u8,
+    r: Record,
+) -> Result<(), Refusal>
     requires sound_memory { SoundMemory m.old × (lengths.now ≡ lengths_of_rules) }
     requires datum_waits { DatumWaits (view m.old) (end_number from) (end_number to) (handle n) (record_number r) }
     ensures { DatumMet m.old (end_number from) (end_number to) (record_number r) (handle n) result m.new }

@@ -1,7 +1,7 @@
 // add, mul, leq: two values are popped and one is pushed. 5 with fewer than two values; 9 where a sum or a product is outside 32 bits.
 ghost use Rattle.std.specs.Prelude.{◌≡◌, ◌<◌, ◌≤◌, length};
 ghost use Rattle.rules.specs.Limits.{record_count, stack_depth};
-ghost use Rattle.rules.specs.Numbers.{record_number, reply_to};
+ghost use Rattle.rules.specs.Numbers.{answer_of, record_number, reply_to};
 ghost use Rattle.rules.specs.State.{State, Registers as Process, running, set_record};
 ghost use Rattle.rules.specs.Causes.{top, below};
 ghost use Rattle.rules.specs.Layout.{state_size, layout};
@@ -50,11 +50,17 @@ fn combine(m: &mut [u8], r: Record, held: Registers, v: i32, next: u16)
 }
 
 // The same, or 9 where v is outside 32 bits.
-fn combine_checked(m: &mut [u8], r: Record, held: Registers, v: i64, next: u16) -> Result<(), Refusal>
+fn combine_checked(
+    m: &mut [u8],
+    r: Record,
+    held: Registers,
+    v: i64,
+    next: u16,
+) -> Result<(), Refusal>
     requires { (length m.old ≡ state_size) × (record_number r < record_count) × (1 < held.stack_count) }
     ensures { (st : State) (g : Process) → Sized st → m.old ≡ layout st → length g.stack ≤ stack_depth
         → held ≡ registers_of g → Promise (reply_to (checked st (record_number r) next g v))
-        (layout_or m.old (checked st (record_number r) next g v)) result m.new }
+        (layout_or m.old (checked st (record_number r) next g v)) (answer_of result) m.new }
 {
     if is_outside(v) {
         return Err(Refusal::Outside);

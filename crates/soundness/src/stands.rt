@@ -17,7 +17,7 @@ ghost use Rattle.canonical.specs.Canonical.{canonical_bytes};
 use crate::lasts::{Last, last_of};
 use code::{Decoded, Instruction, decode, length_table};
 use registers::{Held, Registers, Status};
-use rules::{End, Record, Refusal, Slot, END_COUNT};
+use rules::{END_COUNT, End, Record, Refusal, Slot};
 
 // Slot c holds end e.
 fn holds(held: Registers, c: Slot, e: End) -> bool

@@ -12,7 +12,10 @@ use Rattle.rules.specs.Layout.{view}
 use Rattle.rules.specs.Sound.{RegistersWithin}
 use Rattle.rules.specs.Ask.{answer_to}
 use Rattle.rules.specs.Calls.{layout_or}
-use Rattle.rules.specs.Numbers.{reply_to}
+use Rattle.std.specs.Result.{IsErrAnd}
+use Rattle.rules.specs.declared.Refusal.{Refusal}
+use Rattle.rules.specs.Numbers.{Reply, refusal_number, answer_of, reply_to}
+use Rattle.rules.proofs.Promises.{handed_on}
 use Rattle.rules.specs.Promise.{Promise}
 use Rattle.keeping.specs.Demand3.{SoundMemory}
 use Rattle.registers.specs.declared.Registers.{Registers}
@@ -28,11 +31,6 @@ pub record Begun (m : List ℕ) (r : ℕ) (i : Instruction) (x : Registers) (rep
   pub load_is : Loads m r x
   pub reply_is : (g : Process) → RegistersWithin g → x ≡ registers_of g → reply ≡ own_reply g i
 
--- the reply is known
-pub told : {m : List ℕ} {r : ℕ} {i : Instruction} {x : Registers} {reply reply' : Answer (Unit {0})} → Begun m r i x reply → reply ≡ reply'
-    → Begun m r i x reply'
-told b e = record { sound = b.sound; load_is = b.load_is; reply_is = λ g w q. sym e ∙ b.reply_is g w q }
-
 -- where the record runs with registers g
 module _ {m : List ℕ} {r : ℕ} {i : Instruction} {x : Registers} {reply : Answer (Unit {0})} (b : Begun m r i x reply) (g : Process)
     (is : record_at (view m) r ≡ running g) where
@@ -45,11 +43,13 @@ module _ {m : List ℕ} {r : ℕ} {i : Instruction} {x : Registers} {reply : Ans
   replied : reply ≡ own_reply g i
   replied = b.reply_is g within held
 
--- 5 to 11 are the answer
-pub own_step : {m : List ℕ} {r : ℕ} {i : Instruction} {x : Registers} {n : ℕ} → Begun m r i x (refused n) → (next : ℕ) (g : Process)
+-- 5 to 11 are the answer, which `?` hands on
+pub own_refuses : {m : List ℕ} {r : ℕ} {i : Instruction} {x : Registers} (reply : Reply) (e : Refusal)
+    → IsErrAnd reply (λ (f : Refusal). f ≡ e) → Begun m r i x (refused (refusal_number e)) → (next : ℕ) (g : Process)
     → record_at (view m) r ≡ running g
-    → Promise (reply_to (answer_to (view m) r next g i)) (layout_or m (answer_to (view m) r next g i)) (refused n) m
-own_step {m} {r} {i} {x} {n} b next g is = refused_step n (own_refused (view m) r next g i n (sym (replied b g is)))
+    → Promise (reply_to (answer_to (view m) r next g i)) (layout_or m (answer_to (view m) r next g i)) (answer_of reply) m
+own_refuses {m} {r} {i} {x} reply e h b next g is =
+    rw (handed_on reply e h) (refused_step _ (own_refused (view m) r next g i _ (sym (replied b g is))))
 
 -- none of them holds
 module _ {m : List ℕ} {r : ℕ} {i : Instruction} {x : Registers} (b : Begun m r i x (done tt)) where
@@ -62,7 +62,7 @@ module _ {m : List ℕ} {r : ℕ} {i : Instruction} {x : Registers} (b : Begun m
 
   -- where it runs with registers g
   module _ (g : Process) (is : record_at (view m) r ≡ running g) where
-    pub passes : own_reply g i ≡ (done tt)
+    pub passes : own_reply g i ≡ done tt
     passes = sym (replied b g is)
 
     pub shared_left : (next : ℕ)

@@ -11,28 +11,24 @@ use Rattle.registers.specs.Registers.{popped}
 use Rattle.registers.proofs.Fields.{by_fields}
 use Rattle.stepping.specs.Stepped.{shown_by}
 use Rattle.stepping.proofs.Steps.{registers_ok}
-use Rattle.stepping.proofs.Begun.{Begun, told, own_step, shown, shown_passed, shared_left}
+use Rattle.stepping.proofs.Begun.{Begun, own_refuses, shown, shown_passed, shared_left}
 use Rattle.channels.proofs.Answers.{holds_end, runs_here, full_step, sent}
 use Rattle.channels.proofs.Named.{put_named}
 use Rattle.channels.proofs.sending.put.Goals as goal
-use Rattle.channels.proofs.sending.put.Goals.{After-put, In_default}
+use Rattle.channels.proofs.sending.put.Goals.{In_ok-put}
 
 pub load-held-requires : goal.load-held-requires
 load-held-requires c = (memory_length _ c.requires.0, c.requires.1)
 
--- the registers are loaded and `causes` has replied
-begun : (c : After-put) → let a = c.args in
-    Begun a.m.now a.r.0 (put a.c.0) c.load-held.result c.put.result
-begun c =
-    record { sound = c.requires.0; load_is = c.load-held.ensures; reply_is = c.put.ensures }
-
-pub returns-in-refused : goal.returns-in-refused
-returns-in-refused c g is = own_step (told (begun (goal.at.returns-in-refused c).After-put) c.in-refused.is) _ g is
-
 -- no row 5 to 11 holds
-passed : (c : In_default) → let a = c.args in
+passed : (c : In_ok-put) → let a = c.args in
     Begun a.m.now a.r.0 (put a.c.0) c.load-held.result (done tt)
-passed c = told (begun c.before) c.in_default.is
+passed c = record { sound = c.requires.0; load_is = c.load-held.ensures; reply_is = c.in_ok-put.ensures }
+
+pub returns-in_err-put : goal.returns-in_err-put
+returns-in_err-put c g is =
+    own_refuses _ _ c.from_residual.ensures.1
+    (record { sound = c.requires.0; load_is = c.load-held.ensures; reply_is = c.in_err-put.ensures }) _ g is
 
 -- the stack is not empty
 one_value : (g : Process) (c : ℕ) → NoCause (own_causes g (put c)) → fewer 1 g ≡ false
@@ -47,13 +43,13 @@ pop-popped-requires c =
     omega (arith, (by_fields g (shown b)).stack_count_is, ltb-false (length g.stack) 1 (one_value g _ (shown_passed b)))
 
 pub append-requires : goal.append-requires
-append-requires c = holds_end (passed (goal.at.append-requires c).In_default) _ (put_named _)
+append-requires c = holds_end (passed (goal.at.append-requires c).In_ok-put) _ (put_named _)
 
-pub returns-in-refused-append : goal.returns-in-refused-append
+pub returns-in_err-append : goal.returns-in_err-append
 unfolding shared_causes
-returns-in-refused-append c g is =
-    let b = passed (goal.at.returns-in-refused-append c).In_default in
-    full_step (c.append.ensures _ g (runs_here b _ (put_named _) g is)) c.in-refused-append.is _ (shared_left b g is _)
+returns-in_err-append c g is =
+    let b = passed (goal.at.returns-in_err-append c).In_ok-put in
+    full_step _ _ c.from_residual-in_err-append.ensures.1 (c.in_err-append.ensures _ g (runs_here b _ (put_named _) g is)) _ (shared_left b g is _)
 
 pub save_running-requires : goal.save_running-requires
 save_running-requires c = (c.append.auto.m ∙ memory_length _ c.requires.0, c.requires.1)
@@ -61,12 +57,12 @@ save_running-requires c = (c.append.auto.m ∙ memory_length _ c.requires.0, c.r
 pub returns : goal.returns
 unfolding shared_causes after
 returns c g is =
-    let b = passed (goal.at.returns c).In_default in
+    let b = passed (goal.at.returns c).In_ok-put in
     let runs = runs_here b _ (put_named _) g is in
     let ok = registers_ok _ b.sound _ g is in
     let pop = c.pop-popped.ensures g ok.stack_within runs.is_held in
     let fits : SFits w32 c.pop-popped.result.value = record { sfits = subst ValueWithin (sym pop.0) (ok.stack_values 0) } in
     let same = ap (λ (v : Value). datum (value v)) (to_z-of_z {w = w32} fits ∙ pop.0) in
     let moved = c.at.ensures (popped g) pop.1 in
-    sent (c.append.ensures _ g runs) c.in_default-append.is b.sound same _ _
+    sent (c.in_ok-append.ensures _ g runs) b.sound same _ _
     (λ st l q. c.save_running.ensures st _ l q moved) (shared_left b g is _)

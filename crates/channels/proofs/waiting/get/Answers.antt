@@ -3,39 +3,35 @@ use Rattle.rules.specs.Instruction.{get}
 use Rattle.rules.specs.Causes.{shared_causes}
 use Rattle.rules.specs.RecordStep.{after}
 use Rattle.keeping.proofs.Memories.{memory_length}
-use Rattle.stepping.proofs.Begun.{Begun, told, own_step, shared_left}
+use Rattle.stepping.proofs.Begun.{Begun, own_refuses, shared_left}
 use Rattle.channels.proofs.Answers.{holds_end, runs_here, waited_step}
 use Rattle.channels.proofs.Named.{get_named}
 use Rattle.channels.proofs.waiting.get.Goals as goal
-use Rattle.channels.proofs.waiting.get.Goals.{After-get, In_default}
-use Rattle.rules.specs.Refusal.{refused, done}
+use Rattle.channels.proofs.waiting.get.Goals.{In_ok-get}
+use Rattle.rules.specs.Refusal.{done}
 
 pub load-held-requires : goal.load-held-requires
 load-held-requires c = (memory_length _ c.requires.0, c.requires.1)
 
--- the registers are loaded and `causes` has replied
-begun : (c : After-get) → let a = c.args in
-    Begun a.m.now a.r.0 (get a.c.0) c.load-held.result c.get.result
-begun c =
-    record { sound = c.requires.0; load_is = c.load-held.ensures; reply_is = c.get.ensures }
-
-pub returns-in-refused : goal.returns-in-refused
-returns-in-refused c next g is = own_step (told (begun (goal.at.returns-in-refused c).After-get) c.in-refused.is) _ g is
-
 -- no row 5 to 11 holds
-passed : (c : In_default) → let a = c.args in
+passed : (c : In_ok-get) → let a = c.args in
     Begun a.m.now a.r.0 (get a.c.0) c.load-held.result (done tt)
-passed c = told (begun c.before) c.in_default.is
+passed c = record { sound = c.requires.0; load_is = c.load-held.ensures; reply_is = c.in_ok-get.ensures }
+
+pub returns-in_err-get : goal.returns-in_err-get
+returns-in_err-get c next g is =
+    own_refuses _ _ c.from_residual.ensures.1
+    (record { sound = c.requires.0; load_is = c.load-held.ensures; reply_is = c.in_err-get.ensures }) _ g is
 
 pub wait_at-requires : goal.wait_at-requires
 wait_at-requires c =
     record {
-      holds_end = holds_end (passed (goal.at.wait_at-requires c).In_default) _ (get_named _);
+      holds_end = holds_end (passed (goal.at.wait_at-requires c).In_ok-get) _ (get_named _);
       r_bound = c.requires.1;
     }
 
 pub returns : goal.returns
 unfolding shared_causes after
 returns c next g is =
-    let b = passed (goal.at.returns c).In_default in
+    let b = passed (goal.at.returns c).In_ok-get in
     waited_step (c.wait_at.ensures g (runs_here b _ (get_named _) g is)) (shared_left b g is next)

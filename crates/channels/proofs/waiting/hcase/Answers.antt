@@ -4,43 +4,35 @@ use Rattle.rules.specs.Instruction.{hcase}
 use Rattle.rules.specs.Causes.{shared_causes}
 use Rattle.rules.specs.RecordStep.{after}
 use Rattle.keeping.proofs.Memories.{memory_length}
-use Rattle.stepping.proofs.Begun.{Begun, told, own_step, shared_left}
+use Rattle.stepping.proofs.Begun.{Begun, own_refuses, shared_left}
 use Rattle.channels.proofs.Answers.{holds_end, runs_here, waited_step}
 use Rattle.channels.proofs.Named.{hcase_named}
 use Rattle.channels.proofs.waiting.hcase.Goals as goal
-use Rattle.channels.proofs.waiting.hcase.Goals.{After-hcase, In_default}
-use Rattle.rules.specs.Refusal.{refused, done}
+use Rattle.channels.proofs.waiting.hcase.Goals.{In_ok-hcase}
+use Rattle.rules.specs.Refusal.{done}
 
 pub load-held-requires : goal.load-held-requires
 load-held-requires c = (memory_length _ c.requires.0, c.requires.1)
 
--- the registers are loaded and `causes` has replied
-begun : (c : After-hcase) (places : List ℕ) → let a = c.args in
-    Begun a.m.now a.r.0 (hcase a.c.0 places) c.load-held.result c.hcase.result
-begun c places =
-    record {
-      sound = c.requires.0;
-      load_is = c.load-held.ensures;
-      reply_is = λ g w e. c.hcase.ensures g places w e;
-    }
-
-pub returns-in-refused : goal.returns-in-refused
-returns-in-refused c next places g is = own_step (told (begun (goal.at.returns-in-refused c).After-hcase places) c.in-refused.is) _ g is
-
 -- no row 5 to 11 holds
-passed : (c : In_default) (places : List ℕ) → let a = c.args in
+passed : (c : In_ok-hcase) (places : List ℕ) → let a = c.args in
     Begun a.m.now a.r.0 (hcase a.c.0 places) c.load-held.result (done tt)
-passed c places = told (begun c.before places) c.in_default.is
+passed c places = record { sound = c.requires.0; load_is = c.load-held.ensures; reply_is = λ g w e. c.in_ok-hcase.ensures g places w e }
+
+pub returns-in_err-hcase : goal.returns-in_err-hcase
+returns-in_err-hcase c next places g is =
+    own_refuses _ _ c.from_residual.ensures.1
+    (record { sound = c.requires.0; load_is = c.load-held.ensures; reply_is = λ g w e. c.in_err-hcase.ensures g places w e }) _ g is
 
 pub wait_at-requires : goal.wait_at-requires
 wait_at-requires c =
     record {
-      holds_end = holds_end (passed (goal.at.wait_at-requires c).In_default []) _ (λ g. hcase_named _ g _);
+      holds_end = holds_end (passed (goal.at.wait_at-requires c).In_ok-hcase []) _ (λ g. hcase_named _ g _);
       r_bound = c.requires.1;
     }
 
 pub returns : goal.returns
 unfolding shared_causes after
 returns c next places g is =
-    let b = passed (goal.at.returns c).In_default places in
+    let b = passed (goal.at.returns c).In_ok-hcase places in
     waited_step (c.wait_at.ensures g (runs_here b _ (λ g. hcase_named _ g _) g is)) (shared_left b g is next)

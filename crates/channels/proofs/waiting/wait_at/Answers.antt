@@ -4,8 +4,8 @@ use Rattle.keeping.proofs.Memories.{memory_length}
 use Rattle.channels.proofs.Answers.{full_step, sent}
 use Rattle.channels.proofs.waiting.wait_at.Goals as goal
 
-pub returns-in-Refused : goal.returns-in-Refused
-returns-in-Refused c g h = record { waited = full_step (c.append.ensures _ g h) c.in-Refused.is _ refl }
+pub returns-in_err-append : goal.returns-in_err-append
+returns-in_err-append c g h = record { waited = full_step _ _ c.from_residual.ensures.1 (c.in_err-append.ensures _ g h) _ refl }
 
 pub save_waiting-requires : goal.save_waiting-requires
 save_waiting-requires c = (c.append.auto.m ∙ memory_length _ c.requires.holds_end.sound, c.requires.r_bound)
@@ -14,6 +14,6 @@ pub returns : goal.returns
 returns c g h =
     let s = c.requires.holds_end.sound in
     record {
-      waited = sent (c.append.ensures _ g h) c.in_default.is s refl _ _
+      waited = sent (c.in_ok-append.ensures _ g h) s refl _ _
           (λ st l q. c.save_waiting.ensures st _ l q h.is_held) refl;
     }
