@@ -11,7 +11,13 @@ use code::Instruction;
 use rules::{Record, Refusal};
 
 // Instruction i, decoded at a place of the code, is asked of record r; `next` is the place after it.
-pub fn step_instruction(m: &mut [u8], r: Record, at: usize, i: Instruction, next: u16) -> Result<(), Refusal>
+pub fn step_instruction(
+    m: &mut [u8],
+    r: Record,
+    at: usize,
+    i: Instruction,
+    next: u16,
+) -> Result<(), Refusal>
     requires m_len { length m.old ≡ state_size }
     requires sound_memory { SoundMemory m.old × RunsAt m.old (record_number r) × ListedIn (view m.old).code at i }
     ensures { Stepped m.old (record_number r) next (instruction_of (view m.old).code at i) result m.new }

@@ -11,7 +11,7 @@ use crate::dispatch::step_instruction;
 use code::Decoded;
 use meetings::step_end;
 use registers::Status;
-use rules::{Record, Refusal, RECORD_COUNT};
+use rules::{RECORD_COUNT, Record, Refusal};
 
 // The instruction at the place of a record that runs; 4 where there is none.
 fn step_running(m: &mut [u8], lengths: &[u8; 256], r: Record) -> Result<(), Refusal>

@@ -10,12 +10,12 @@ use lib.Dec.{eqb}
 use borrow.Author.Tests.{eq-eqb, ne_eqb}
 use Rattle.rules.specs.Limits.{end_count}
 use Rattle.rules.specs.State.{free_ends, lowest_free_end}
-use Rattle.rules.specs.Refusal.{Answer, refused, done, unless}
+use Rattle.rules.specs.Refusal.{Answer, refused, done, unless, number_of}
 use Rattle.rules.specs.Layout.{state_size, free_word, view}
 use Rattle.rules.specs.Ask.{ask_record, ask_end}
 use Rattle.rules.specs.Calls as rules
 use Rattle.rules.specs.Calls.{sound_bytes, where_sound, layout_or, record_answer, call_record, end_answer, call_end, call_free_ends}
-use Rattle.rules.specs.Numbers.{reply_to, reply_number}
+use Rattle.rules.specs.Numbers.{Reply, refusal_number, answer_of, reply_to}
 use Rattle.rules.proofs.Promises.{is_refused}
 use Rattle.rules.specs.Promise.{Promise}
 use Rattle.keeping.specs.Demand3.{SoundMemory}
@@ -24,7 +24,11 @@ use Rattle.keeping.proofs.Demand3.{where_sound_lem}
 use Rattle.ends.specs.Words.{ends_in}
 use Rattle.ends.proofs.Words.{agrees}
 use Rattle.stepping.proofs.Steps.{refused_step, memory_sized}
-use Rattle.machine.specs.Answers.{sound_reply}
+use Rattle.std.specs.Prelude.{Result, Ok, Err}
+use Rattle.std.specs.Result.{IsErrAnd}
+use Rattle.rules.specs.declared.Refusal.{Refusal}
+use Rattle.machine.specs.declared.FreeEnds.{FreeEnds}
+use Rattle.machine.specs.Answers.{sound_reply, free_answer}
 
 module _ (m : List ℕ) where
   pub another_length : length m ≢ state_size → refused 24 ≡ sound_reply m
@@ -35,7 +39,7 @@ module _ (m : List ℕ) where
   unfolding unless
   not_sound h f = rw (eq-eqb (length m) state_size h, f)
 
-  pub is_right : length m ≡ state_size → sound_bytes m ≡ true → (done tt) ≡ sound_reply m
+  pub is_right : length m ≡ state_size → sound_bytes m ≡ true → done tt ≡ sound_reply m
   unfolding unless
   is_right h t = rw (eq-eqb (length m) state_size h, t)
 
@@ -45,16 +49,16 @@ module _ (m : List ℕ) where
   refused_so a n e = go (eqb (length m) state_size) (sound_bytes m) refl refl e
     where
       go : (b t : Bool) → eqb (length m) state_size ≡ b → sound_bytes m ≡ t → sound_reply m ≡ refused n → where_sound m a ≡ refused n
-      go false t q z h = let k = ap reply_number (rw q at h) in rw q (ap refused k)
-      go true false q z h = let k = ap reply_number (rw (q, z) at h) in rw (q, z) (ap refused k)
+      go false t q z h = let k = ap number_of (rw q at h) in rw q (ap refused k)
+      go true false q z h = let k = ap number_of (rw (q, z) at h) in rw (q, z) (ap refused k)
       go true true q z h = absurd (omega (arith, ap is_refused (rw (q, z) at h)))
 
   -- not refused: the memory is sound
-  pub sound_so : sound_reply m ≡ (done tt) → SoundMemory m
+  pub sound_so : sound_reply m ≡ done tt → SoundMemory m
   unfolding unless
   sound_so e = go (eqb (length m) state_size) (sound_bytes m) refl refl e
     where
-      go : (b t : Bool) → eqb (length m) state_size ≡ b → sound_bytes m ≡ t → sound_reply m ≡ (done tt) → SoundMemory m
+      go : (b t : Bool) → eqb (length m) state_size ≡ b → sound_bytes m ≡ t → sound_reply m ≡ done tt → SoundMemory m
       go b true q z h = memory_of_test m z
       go false false q z h = absurd (omega (arith, ap is_refused (rw q at h)))
       go true false q z h = absurd (omega (arith, ap is_refused (rw (q, z) at h)))
@@ -86,9 +90,11 @@ module _ (m : List ℕ) (number : ℕ) where
 -- ---- the free ends
 
 module _ (m : List ℕ) where
-  pub free_refused : (n : ℕ) → sound_reply m ≡ refused n → refused n ≡ call_free_ends m
+  pub free_refused : (r : Result FreeEnds Refusal) (e : Refusal) → IsErrAnd r (λ (f : Refusal). f ≡ e)
+      → sound_reply m ≡ refused (refusal_number e) → free_answer r ≡ call_free_ends m
   unfolding call_free_ends
-  free_refused n e = sym (refused_so m _ n e)
+  free_refused (Err f) e h q = ap (λ (x : Refusal). refused (refusal_number x)) h ∙ sym (refused_so m _ _ q)
+  free_refused (Ok x) e h q = elim h [ ]
 
   pub free_counted : (word k low : ℕ) → SoundMemory m → word ≡ free_word (view m).ends → k ≡ length (ends_in word)
       → low ≡ get_or (ends_in word) 0 end_count → done (record { count = k; lowest = low }) ≡ call_free_ends m

@@ -5,25 +5,25 @@
 
 ghost use Rattle.std.specs.Prelude.{◌≡◌};
 ghost use Rattle.rules.specs.Calls.{record_answer, call_record, end_answer, call_end, call_free_ends};
-ghost use Rattle.rules.specs.Numbers.{reply_to};
+ghost use Rattle.rules.specs.Numbers.{answer_of, reply_to};
 ghost use Rattle.rules.specs.Promise.{Promise};
 ghost use Rattle.machine.specs.Answers.{sound_reply, free_answer};
 
 use ends::word::{count, lowest};
 pub use loading::load;
+use rules::Refusal;
 use rules::offsets::STATE_SIZE;
-use rules::{Refusal};
 
-// How many ends are free, and the lowest of them (64 with none free), or one of document 01's numbers.
+// How many ends are free, and the lowest of them (64 with none free).
 #[derive(Clone, Copy)]
-pub enum FreeEnds {
-    Counted { count: u8, lowest: u8 },
-    Refused(u8),
+pub struct FreeEnds {
+    pub count: u8,
+    pub lowest: u8,
 }
 
 // 24, then 1; done where the memory is the layout of a sound state.
 pub fn tested(state: &[u8]) -> Result<(), Refusal>
-    ensures { result ≡ sound_reply state.now }
+    ensures { answer_of result ≡ sound_reply state.now }
 {
     if state.len() != STATE_SIZE {
         return Err(Refusal::StateLength);
@@ -37,7 +37,7 @@ pub fn tested(state: &[u8]) -> Result<(), Refusal>
 // A record is asked to step: 24, 1, 2 to 15, or done. Any number may be asked.
 pub fn ask_record(state: &mut [u8], record: u32) -> Result<(), Refusal>
     ensures { Promise (reply_to (record_answer state.old «record»)) (call_record state.old «record»).memory
-        result state.new }
+        (answer_of result) state.new }
 {
     tested(state)?;
     let lengths = code::length_table();
@@ -47,7 +47,7 @@ pub fn ask_record(state: &mut [u8], record: u32) -> Result<(), Refusal>
 // An end is asked to step: 24, 1, 16 to 19, or done. Any number may be asked.
 pub fn ask_end(state: &mut [u8], end: u32) -> Result<(), Refusal>
     ensures { Promise (reply_to (end_answer state.old end)) (call_end state.old end).memory
-        result state.new }
+        (answer_of result) state.new }
 {
     tested(state)?;
     let lengths = code::length_table();
@@ -55,16 +55,14 @@ pub fn ask_end(state: &mut [u8], end: u32) -> Result<(), Refusal>
 }
 
 // How many ends are free, and the lowest: 24, 1, or both numbers.
-pub fn free_ends(state: &[u8]) -> FreeEnds
+pub fn free_ends(state: &[u8]) -> Result<FreeEnds, Refusal>
     ensures { free_answer result ≡ call_free_ends state.now }
 {
-    if let Reply::Refused(n) = tested(state) {
-        return FreeEnds::Refused(n);
-    }
+    tested(state)?;
     let word = ends::free_word(state);
     let end = lowest(word);
-    FreeEnds::Counted {
+    Ok(FreeEnds {
         count: count(word),
         lowest: end.0,
-    }
+    })
 }

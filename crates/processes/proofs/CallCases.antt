@@ -14,7 +14,7 @@ use Rattle.registers.specs.Registers.{called}
 use Rattle.causes.specs.Own.{own_reply}
 use Rattle.causes.proofs.Shared.{none_holds, own_done}
 
-module _ (g : Registers) (place n : ℕ) (cs : List ℕ) (passes : own_reply g (run place n cs) ≡ (done tt)) where
+module _ (g : Registers) (place n : ℕ) (cs : List ℕ) (passes : own_reply g (run place n cs) ≡ done tt) where
   -- there are n values
   pub enough : n ≤ length g.stack
   unfolding own_causes

@@ -33,7 +33,7 @@ use Rattle.processes.specs.Joinable.{shared_reply, Joinable}
 -- ---- same c d, with none of the rows 5 to 11 holding
 
 module _ (st : State) (s : Sound st) (r : ℕ) (g : Registers) (is : record_at st r ≡ running g) where
-  module _ (c d : ℕ) (passes : own_reply g (same c d) ≡ (done tt)) where
+  module _ (c d : ℕ) (passes : own_reply g (same c d) ≡ done tt) where
     own : NoCause (own_causes g (same c d))
     own = none_holds (own_causes g (same c d)) passes
 
@@ -68,7 +68,7 @@ module _ (st : State) (s : Sound st) (r : ℕ) (g : Registers) (is : record_at s
     nothing_queued e m [] was h = was
     nothing_queued e m (x ∷ ds) was h = absurd (omega (arith, ltb-false 0 (queue_length (end_at st e)) h, ap queue_length was))
 
-    pub joinable : shared_reply st g (same c d) ≡ (done tt) → Joinable st (end_in g c) (end_in g d)
+    pub joinable : shared_reply st g (same c d) ≡ done tt → Joinable st (end_in g c) (end_in g d)
     unfolding shared_causes
     joinable e =
         let free = none_holds (shared_causes st g (same c d)) e in
@@ -85,7 +85,7 @@ module _ (st : State) (s : Sound st) (r : ℕ) (g : Registers) (is : record_at s
     pub shared_refused : (next n : ℕ) → shared_reply st g (same c d) ≡ refused n → answer_to st r next g (same c d) ≡ refused n
     shared_refused next n e = own_done st r next g (same c d) passes ∙ one_holds (shared_causes st g (same c d)) _ n e
 
-    pub same_done : (next : ℕ) → shared_reply st g (same c d) ≡ (done tt)
+    pub same_done : (next : ℕ) → shared_reply st g (same c d) ≡ done tt
         → answer_to st r next g (same c d) ≡ done (after st r next g (lowest_free st) (same c d))
     same_done next e = own_done st r next g (same c d) passes ∙ goes_on (shared_causes st g (same c d)) _ e
 

@@ -30,7 +30,7 @@ module _ (st : State) (g : Registers) (c d : ℕ) where
   second_queued f f' f'' t = rw (f, f', f'', t)
 
   pub no_row : eqb c d ≡ false → partners st c d g ≡ false → queue_not_empty st c g ≡ false → queue_not_empty st d g ≡ false
-      → (done tt) ≡ shared_reply st g (same c d)
+      → done tt ≡ shared_reply st g (same c d)
   unfolding shared_causes unless
   no_row f f' f'' f''' = rw (f, f', f'', f''')
 

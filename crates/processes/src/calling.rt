@@ -6,7 +6,7 @@ ghost use Rattle.rules.specs.State.{Registers as Process};
 ghost use Rattle.rules.specs.Sound.{RegistersWithin};
 ghost use Rattle.rules.specs.Instruction.{slots_at, run as run_of};
 ghost use Rattle.rules.specs.Layout.{view};
-ghost use Rattle.rules.specs.Numbers.{record_number};
+ghost use Rattle.rules.specs.Numbers.{answer_of, record_number};
 ghost use Rattle.keeping.specs.Demand3.{SoundMemory};
 ghost use Rattle.registers.specs.Registers.{registers_of, called};
 ghost use Rattle.causes.specs.Own.{own_reply};
@@ -32,7 +32,7 @@ fn listed(m: &[u8], at: usize, j: u8) -> &[u8]
 fn refusal(m: &[u8], held: Registers, at: usize, n: u8, j: u8) -> Result<(), Refusal>
     requires { SoundMemory m.now × (at + 5 + j ≤ length (view m.now).code) }
     ensures { (g : Process) (place : ℕ) → RegistersWithin g → held ≡ registers_of g
-        → result ≡ own_reply g (run_of place n (slots_at (view m.now).code at 5 j)) }
+        → answer_of result ≡ own_reply g (run_of place n (slots_at (view m.now).code at 5 j)) }
 {
     causes::run(held, n, listed(m, at, j))
 }

@@ -6,7 +6,7 @@ ghost use Rattle.rules.specs.State.{State, Registers as Process, is_free_end, en
 ghost use Rattle.rules.specs.Instruction.{same as same_of};
 ghost use Rattle.rules.specs.RecordStep.{joined};
 ghost use Rattle.rules.specs.Layout.{state_size, layout, view};
-ghost use Rattle.rules.specs.Numbers.{record_number, slot_number, end_number};
+ghost use Rattle.rules.specs.Numbers.{answer_of, record_number, slot_number, end_number};
 ghost use Rattle.keeping.specs.Demand3.{SoundMemory};
 ghost use Rattle.keeping.proofs.LayoutLaws.{Sized};
 ghost use Rattle.stepping.specs.Stepped.{Stepped, RunsAt};
@@ -19,7 +19,7 @@ fn refusal(m: &[u8], c: Slot, d: Slot, x: End, y: End) -> Result<(), Refusal>
     requires { (length m.now ≡ state_size) × (end_number x < end_count) × (end_number y < end_count) }
     ensures { (st : State) (g : Process) → Sized st → m.now ≡ layout st → end_number x ≡ end_in g (slot_number c)
         → end_number y ≡ end_in g (slot_number d) → is_free_end (end_at st (end_number x)) ≡ false
-        → result ≡ shared_reply st g (same_of (slot_number c) (slot_number d)) }
+        → answer_of result ≡ shared_reply st g (same_of (slot_number c) (slot_number d)) }
 {
     if c.0 == d.0 {
         return Err(Refusal::SameTwice); // one slot twice

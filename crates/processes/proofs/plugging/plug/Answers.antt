@@ -1,38 +1,32 @@
 -- plug: what its rows say, 15, or the two processes. Assumes nothing.
 use Rattle.std.proofs.Common.{◌≡◌, false, arith}
 use Rattle.rules.specs.State.{lowest_free_record}
-use Rattle.rules.specs.Instruction.{Instruction, plug}
+use Rattle.rules.specs.Instruction.{plug}
 use Rattle.rules.specs.Causes.{few_free_ends, no_free_record}
 use Rattle.rules.specs.Layout.{view, free_word}
 use Rattle.keeping.proofs.Memories.{memory_length}
 use Rattle.stepping.proofs.Steps.{refused_step, done_step, memory_sized, in_range}
 use Rattle.stepping.proofs.FreeEnds.{few_ends, enough_ends}
 use Rattle.stepping.proofs.FreeRecords.{no_record, some_record}
-use Rattle.stepping.proofs.Begun.{Begun, told, held, own_step, passes}
+use Rattle.stepping.proofs.Begun.{Begun, own_refuses, held, passes}
 use Rattle.processes.proofs.PlugCases.{too_few_ends, no_free_record_lem, plugged}
 use Rattle.processes.proofs.plugging.plug.Goals as goal
-use Rattle.processes.proofs.plugging.plug.Goals.{After-free_word-word, After-lowest_free_record-new, After-plug, Else-count-lt2, Else-new}
-use Rattle.processes.proofs.plugging.plug.Goals.{In_default, Start}
-use Rattle.rules.specs.Refusal.{refused, done}
+use Rattle.processes.proofs.plugging.plug.Goals.{After-free_word-word, After-lowest_free_record-new, Else-count-lt2, Else-new}
+use Rattle.processes.proofs.plugging.plug.Goals.{In_ok-plug}
+use Rattle.rules.specs.Refusal.{done}
 
 pub load-held-requires : goal.load-held-requires
 load-held-requires c = let p = c.requires in (memory_length _ p.0, in_range _ p.0 _ p.1)
 
--- the instruction
-abbrev this : Start → Instruction
-this s = let a = s.args in plug a.a.0 a.first.set a.first.place a.second.set a.second.place
-
--- the registers are loaded and `causes` has replied
-begun : (c : After-plug) → Begun c.args.m.now c.args.r.0 (this c.before.before.before) c.load-held.result c.plug.result
-begun c =
-    record { sound = c.requires.0; load_is = c.load-held.ensures; reply_is = c.plug.ensures }
-
-pub returns-in-refused : goal.returns-in-refused
-returns-in-refused c next g is = own_step (told (begun (goal.at.returns-in-refused c).After-plug) c.in-refused.is) next g is
-
 -- no row 5 to 11 holds
-passed : (c : In_default) → Begun c.args.m.now c.args.r.0 (this c.before.before.before.before) c.load-held.result (done tt)
-passed c = told (begun c.before) c.in_default.is
+passed : (c : In_ok-plug) → let a = c.args in
+    Begun a.m.now a.r.0 (plug a.a.0 a.first.set a.first.place a.second.set a.second.place) c.load-held.result (done tt)
+passed c = record { sound = c.requires.0; load_is = c.load-held.ensures; reply_is = c.in_ok-plug.ensures }
+
+pub returns-in_err-plug : goal.returns-in_err-plug
+returns-in_err-plug c next g is =
+    own_refuses _ _ c.from_residual.ensures.1
+    (record { sound = c.requires.0; load_is = c.load-held.ensures; reply_is = c.in_err-plug.ensures }) next g is
 
 pub free_word-word-requires : goal.free_word-word-requires
 free_word-word-requires c = memory_length _ c.requires.0
@@ -49,7 +43,7 @@ returns-then-count-lt2 c next g is =
     let st = view a.m.now in
     let few = few_ends st (memory_sized _ c.requires.0) _ (word_read (goal.at.returns-then-count-lt2 c).After-free_word-word)
     c.count.ensures 2 c.if-count-lt2.true in
-    refused_step 15 (too_few_ends st a.r.0 next g _ _ _ _ _ (passes (passed (goal.at.returns-then-count-lt2 c).In_default) g is) few)
+    refused_step 15 (too_few_ends st a.r.0 next g _ _ _ _ _ (passes (passed (goal.at.returns-then-count-lt2 c).In_ok-plug) g is) few)
 
 pub lowest_free_record-new-requires : goal.lowest_free_record-new-requires
 lowest_free_record-new-requires c = memory_length _ c.requires.0
@@ -72,7 +66,7 @@ returns-then-new c next g is =
     let st = view a.m.now in
     let none = no_record st c.requires.0.state_sound
     (omega (arith, c.if-new.true, new_read (goal.at.returns-then-new c).After-lowest_free_record-new)) in
-    refused_step 15 (no_free_record_lem st a.r.0 next g _ _ _ _ _ (passes (passed (goal.at.returns-then-new c).In_default) g is)
+    refused_step 15 (no_free_record_lem st a.r.0 next g _ _ _ _ _ (passes (passed (goal.at.returns-then-new c).In_ok-plug) g is)
     (two (goal.at.returns-then-new c).Else-count-lt2) none)
 
 -- a record is free
@@ -100,7 +94,7 @@ pub returns : goal.returns
 returns c next g is =
     let a = c.args in
     let m = a.m.now in
-    let b = passed (goal.at.returns c).In_default in
+    let b = passed (goal.at.returns c).In_ok-plug in
     done_step m _ (plugged (view m) a.r.0 next g _ _ _ _ _ (passes b g is) (two (goal.at.returns c).Else-count-lt2)
     (some (goal.at.returns c).Else-new))
     (c.divide.ensures next g is (held b g is))
