@@ -17,7 +17,6 @@ use Rattle.keeping.proofs.Memories.{sound_view, sound_layout}
 use Rattle.machine.specs.Answers.{sound_reply}
 use Rattle.machine.proofs.FirstRows.{refused_so}
 use Rattle.runner.specs.declared.running.Ran.{Ran}
-use Rattle.runner.specs.declared.running.Ran.TheVariants.{Made, Refused}
 use Rattle.runner.specs.declared.verdict.Verdict.{Verdict}
 use Rattle.runner.specs.Runs.{verdict_code, Ended, ran_reply}
 
@@ -28,12 +27,12 @@ left_sound end = subst SoundMemory (sym end.left_is) (sound_layout _ end.reached
 
 module _ (m : List ℕ) (budget start : ℕ) where
   -- the promise of an answer that is known
-  promised : {r : Ran} {left : List ℕ} (a : Answer rules.Ran) → run_answer m budget start ≡ a → r ≡ ran_reply a → left ≡ reached_or m a
+  promised : {r : Answer Ran} {left : List ℕ} (a : Answer rules.Ran) → run_answer m budget start ≡ a → r ≡ ran_reply a → left ≡ reached_or m a
       → Promise (ran_reply (run_answer m budget start)) (call_run m budget start).memory r left
   unfolding call_run
   promised a e q z = rw e (record { answer_is = q; memory_is = z })
 
-  pub run_refused : (n : ℕ) → sound_reply m ≡ RefusedReply n
+  pub run_refused : (n : ℕ) → sound_reply m ≡ refused n
       → Promise (ran_reply (run_answer m budget start)) (call_run m budget start).memory (refused n) m
   unfolding run_answer
   run_refused n e = promised (refused n) (refused_so m _ n e) refl refl
@@ -45,7 +44,7 @@ module _ (m : List ℕ) (budget start : ℕ) where
 
   pub ran : SoundMemory m → start < position_count → {made next : ℕ} {v : Verdict} {left : List ℕ}
       → Ended (view m) start (steps budget (view m) start) made next left → v ≡ verdict_code (verdict_of (view left))
-      → Promise (ran_reply (run_answer m budget start)) (call_run m budget start).memory (Made made next v) left
+      → Promise (ran_reply (run_answer m budget start)) (call_run m budget start).memory (done (record { steps = made; next = next; verdict = v })) left
   unfolding run_answer unless run_from ran_by
   ran s h {made} {next} {v} {left} end e =
       let reached = reached_by (view m) (steps budget (view m) start) in

@@ -235,12 +235,16 @@ module _ (m₀ : List ℕ) (from p to : ℕ) (passed : PassedTo (view m₀) from
       ∙ none_left (view m₀) (to - to) to (omega arith))
       (record { answer_is = refl; memory_is = same })
 
-  module _ (below : p < to) {reply : Answer (Unit {0})} {left : List ℕ} (asked : PositionStepped m p reply left) where
-    asked₀ : PositionStepped m₀ p reply left
-    asked₀ = subst (λ (x : List ℕ). PositionStepped x p reply left) same asked
+  -- position p was asked, and the answer says so much
+  abbrev Asked : List ℕ → Answer (Unit {0}) → List ℕ → Type 0
+  Asked x said left = Promise (reply_to (ask (view x) p)) (layout_or x (ask (view x) p)) said left
+
+  module _ (below : p < to) {said : Answer (Unit {0})} {left : List ℕ} (asked : Asked m said left) where
+    asked₀ : Asked m₀ said left
+    asked₀ = subst (λ (x : List ℕ). Asked x said left) same asked
 
     -- p steps
-    pub found_here : reply ≡ (done tt) → Sought (At p) left
+    pub found_here : said ≡ done tt → Sought (At p) left
     found_here is = go (ask (view m₀) p) refl
       where
         go : (a : Answer State) → ask (view m₀) p ≡ a → Sought (At p) left
@@ -254,7 +258,7 @@ module _ (m₀ : List ℕ) (from p to : ℕ) (passed : PassedTo (view m₀) from
             (record { answer_is = refl; memory_is = asked₀.memory_is ∙ ap (layout_or m₀) e })
 
     -- p does not step: the memory is as it was, and p is passed over
-    pub not_here : (n : ℕ) → reply ≡ refused n → (left ≡ m₀) × PassedTo (view m₀) from (p + 1) position_count
+    pub not_here : (n : ℕ) → said ≡ refused n → (left ≡ m₀) × PassedTo (view m₀) from (p + 1) position_count
     not_here n is = go (ask (view m₀) p) refl
       where
         go : (a : Answer State) → ask (view m₀) p ≡ a → (left ≡ m₀) × PassedTo (view m₀) from (p + 1) position_count

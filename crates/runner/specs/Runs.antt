@@ -14,7 +14,6 @@ use Rattle.runner.specs.declared.searching.Stepped.TheVariants.{Nowhere, At}
 use Rattle.runner.specs.declared.verdict.Verdict.{Verdict}
 use Rattle.runner.specs.declared.verdict.Verdict.TheVariants.{Spent, Finished, Stuck}
 use Rattle.runner.specs.declared.running.Ran.{Ran}
-use Rattle.runner.specs.declared.running.Ran.TheVariants.{Made, Refused}
 
 -- none of the positions from p up to q can step, and q is no more than `most`
 pub record PassedTo (st : State) (p q most : ℕ) : Type 0 where
@@ -47,6 +46,6 @@ pub record Ended (st : State) (p : ℕ) (ss : List Step) (made next : ℕ) (left
   pub next_in_range : next < position_count
 
 -- the answer to a run: its number, or steps made, next position and verdict
-abbrev pub ran_reply : Answer rules.Ran → Ran
-ran_reply (refused n) = Refused n
-ran_reply (done ran) = Made ran.made ran.next (verdict_code ran.verdict)
+abbrev pub ran_reply : Answer rules.Ran → Answer Ran
+ran_reply (refused n) = refused n
+ran_reply (done ran) = done (record { steps = ran.made; next = ran.next; verdict = verdict_code ran.verdict })

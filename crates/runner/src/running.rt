@@ -5,23 +5,21 @@ ghost use Rattle.rules.specs.Instruction.{lengths as lengths_of_rules};
 ghost use Rattle.rules.specs.Run.{steps};
 ghost use Rattle.rules.specs.Layout.{state_size, view};
 ghost use Rattle.rules.specs.Calls.{run_answer, call_run};
+ghost use Rattle.rules.specs.Numbers.{answer_of};
 ghost use Rattle.rules.specs.Promise.{Promise};
 ghost use Rattle.keeping.specs.Demand3.{SoundMemory};
 ghost use Rattle.runner.specs.Runs.{Ended, ran_reply};
 
 use crate::searching::{Stepped, position_after, step_from};
 use crate::verdict::{Verdict, verdict_of};
-use rules::{Refusal, POSITION_COUNT};
+use rules::{POSITION_COUNT, Refusal};
 
-// Steps made, the next position and the verdict, or one of document 01's numbers.
+// Steps made, the next position and the verdict.
 #[derive(Clone, Copy)]
-pub enum Ran {
-    Made {
-        steps: u16,
-        next: u8,
-        verdict: Verdict,
-    },
-    Refused(u8),
+pub struct Ran {
+    pub steps: u16,
+    pub next: u8,
+    pub verdict: Verdict,
 }
 
 // How many steps were made, and the position after the last.
@@ -51,21 +49,19 @@ fn make_steps(m: &mut [u8], lengths: &[u8; 256], budget: u16, start: u32) -> Cou
 }
 
 // 24, 1, 25, or the run.
-pub fn run(state: &mut [u8], budget: u16, start: u32) -> Ran
-    ensures { Promise (ran_reply (run_answer state.old budget start)) (call_run state.old budget start).memory result
+pub fn run(state: &mut [u8], budget: u16, start: u32) -> Result<Ran, Refusal>
+    ensures { Promise (ran_reply (run_answer state.old budget start)) (call_run state.old budget start).memory (answer_of result)
         state.new }
 {
-    if let Reply::Refused(n) = machine::tested(state) {
-        return Ran::Refused(n);
-    }
+    machine::tested(state)?;
     if POSITION_COUNT as u32 <= start {
         return Err(Refusal::StartPosition);
     }
     let lengths = code::length_table();
     let count = make_steps(state, &lengths, budget, start);
-    Ran::Made {
+    Ok(Ran {
         steps: count.made,
         next: count.next as u8,
         verdict: verdict_of(state, &lengths),
-    }
+    })
 }

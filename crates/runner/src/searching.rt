@@ -14,7 +14,7 @@ ghost use Rattle.keeping.specs.Demand3.{SoundMemory};
 ghost use Rattle.runner.specs.Runs.{PassedTo, stepped_by, memory_by};
 
 use registers::Status;
-use rules::{End, Record, Refusal, POSITION_COUNT, RECORD_COUNT};
+use rules::{End, POSITION_COUNT, RECORD_COUNT, Record, Refusal};
 
 // Where a step was made, if one was.
 #[derive(Clone, Copy)]

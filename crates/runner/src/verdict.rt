@@ -12,7 +12,7 @@ ghost use Rattle.runner.specs.Runs.{verdict_code, stepped_by};
 use crate::searching::{Stepped, step_from};
 use registers::Status;
 use rules::offsets::STATE_SIZE;
-use rules::{Record, RECORD_COUNT};
+use rules::{RECORD_COUNT, Record};
 
 #[derive(Clone, Copy)]
 pub enum Verdict {
