@@ -8,18 +8,14 @@ ghost use Rattle.rules.specs.Refusal.{number_of};
 ghost use Rattle.rules.specs.Calls.{load, write, call_record, call_end, call_free_ends, run_answer, call_run};
 ghost use Rattle.amulingsad.specs.Answers.{count_or, lowest_or, steps_or, next_or, verdict_or, verdict_number};
 
-use machine::FreeEnds;
 use rules::number_of;
-use runner::{Ran, Verdict};
+use runner::Verdict;
 
+// The number of a verdict in the header.
 fn number_of_verdict(verdict: Verdict) -> u8
     ensures { result ≡ verdict_number verdict }
 {
-    match verdict {
-        Verdict::Spent => 0,
-        Verdict::Finished => 1,
-        Verdict::Stuck => 2,
-    }
+    verdict as u8
 }
 
 #[unsafe(no_mangle)]
@@ -61,13 +57,10 @@ pub extern "C" fn amul_free_ends(state: &[u8], count: &mut u8, lowest: &mut u8) 
     ensures lowest { lowest.new ≡ lowest_or lowest.old (call_free_ends state.now) }
 {
     match machine::free_ends(state) {
-        FreeEnds::Refused(n) => n,
-        FreeEnds::Counted {
-            count: free,
-            lowest: first,
-        } => {
-            *count = free;
-            *lowest = first;
+        Err(refusal) => refusal.number(),
+        Ok(free) => {
+            *count = free.count;
+            *lowest = free.lowest;
             0
         }
     }
@@ -89,15 +82,11 @@ pub extern "C" fn amul_run(
     ensures verdict { verdict.new ≡ verdict_or verdict.old (run_answer state.old budget start) }
 {
     match runner::run(state, budget, start) {
-        Ran::Refused(n) => n,
-        Ran::Made {
-            steps: made,
-            next: position,
-            verdict: end,
-        } => {
-            *steps = made;
-            *next = position;
-            *verdict = number_of_verdict(end);
+        Err(refusal) => refusal.number(),
+        Ok(ran) => {
+            *steps = ran.steps;
+            *next = ran.next;
+            *verdict = number_of_verdict(ran.verdict);
             0
         }
     }

@@ -14,7 +14,7 @@ use Rattle.rules.specs.Text.{text, decimal}
 use Rattle.rules.specs.Printed.{lines_text, last_text, trace_budget, run_text, answer_text, trace_text}
 use Rattle.rules.specs.Layout.{state_size, layout, view}
 use Rattle.rules.specs.Calls.{started, load_answer, load}
-use Rattle.rules.specs.Numbers.{reply_to, reply_number}
+use Rattle.rules.specs.Numbers.{reply_to}
 use Rattle.rules.proofs.Promises.{is_refused}
 use Rattle.rules.specs.Promise.{Promise}
 use Rattle.rules.proofs.Rows.{all_passed}
@@ -59,27 +59,27 @@ read_code : (image code : List ℕ) → read_image image ≡ done code → code_
 unfolding read_image
 read_code image code h = ap (code_or code) (all_passed (read_causes image) (done (code_in image)) code h).1
 
-module _ (m image : List ℕ) (length_is : length m ≡ state_size) {reply : Answer (Unit {0})} {left : List ℕ}
-    (p : Promise (reply_to (load_answer m image)) (load m image).memory reply left) where
+module _ (m image : List ℕ) (length_is : length m ≡ state_size) {said : Answer (Unit {0})} {left : List ℕ}
+    (p : Promise (reply_to (load_answer m image)) (load m image).memory said left) where
   -- only the image decides
   answer_is : load_answer m image ≡ started (read_image image)
   unfolding load_answer unless
   answer_is = rw (eq-eqb (length m) state_size length_is) refl
 
-  pub refused_image : (n : ℕ) → reply ≡ refused n → text "refused " ++ decimal n ++ text "\n" ≡ trace_text image
+  pub refused_image : (n : ℕ) → said ≡ refused n → text "refused " ++ decimal n ++ text "\n" ≡ trace_text image
   unfolding trace_text
   refused_image n is = go (read_image image) (sym is ∙ p.answer_is ∙ ap reply_to answer_is)
     where
       go : (a : Answer (List ℕ)) → refused n ≡ reply_to (started a) → text "refused " ++ decimal n ++ text "\n" ≡ answer_text a
-      go (refused k) h = ap (λ (j : ℕ). text "refused " ++ decimal j ++ text "\n") (ap reply_number h)
+      go (refused k) h = ap (λ (j : ℕ). text "refused " ++ decimal j ++ text "\n") (ap number_of h)
       go (done code) h = absurd (omega (arith, ap is_refused h))
 
-  pub loaded_image : ((i : ℕ) → get_or image i 0 < 256) → reply ≡ (done tt)
+  pub loaded_image : ((i : ℕ) → get_or image i 0 < 256) → said ≡ done tt
       → SoundMemory left × (run_text (view left) (steps trace_budget (view left) 0) ≡ trace_text image)
   unfolding trace_text load
   loaded_image bytes is = go (read_image image) refl (sym is ∙ p.answer_is ∙ ap reply_to answer_is)
     where
-      go : (a : Answer (List ℕ)) → read_image image ≡ a → (done tt) ≡ reply_to (started a)
+      go : (a : Answer (List ℕ)) → read_image image ≡ a → done tt ≡ reply_to (started a)
           → SoundMemory left × (run_text (view left) (steps trace_budget (view left) 0) ≡ trace_text image)
       go (refused k) q h = absurd (omega (arith, ap is_refused h))
       go (done code) q h =

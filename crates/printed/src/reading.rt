@@ -13,7 +13,7 @@ ghost use Rattle.printed.specs.Meaning.{PrintsAt, printed_of, item_printed};
 
 use crate::kinds::{Kind, Printed};
 use ends::{Head, Item};
-use rules::{End, Record, RECORD_COUNT};
+use rules::{End, RECORD_COUNT, Record};
 
 // Two closes, at an end. The same stands where a position cannot step: there it is never shown.
 fn closed(position: u32) -> Printed

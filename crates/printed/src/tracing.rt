@@ -11,7 +11,6 @@ ghost use Rattle.printed.specs.Traced.{trace_limit, Traced};
 
 use crate::forward::{Forward, step_forward};
 use crate::lines::{put_last, put_line, put_refused};
-use rules::Refusal;
 use rules::offsets::STATE_SIZE;
 use runner::{position_after, verdict_of};
 
@@ -72,7 +71,7 @@ pub fn trace(image: &[u8], out: &mut [u8]) -> usize
 {
     let mut state = [0; STATE_SIZE];
     match machine::load(&mut state, image) {
-        Reply::Refused(n) => put_refused(out, 0, n),
+        Err(refusal) => put_refused(out, 0, refusal.number()),
         Ok(()) => put_run(&mut state, out),
     }
 }

@@ -1,7 +1,6 @@
 -- The reply's number, and the memory that `machine` leaves. Assumes nothing.
-use Rattle.std.proofs.Common.{ap, ◌∙◌}
+use Rattle.std.proofs.Common.{◌∙◌}
 use Rattle.rules.specs.Calls.{call_end, end_answer}
-use Rattle.rules.specs.Numbers.{reply_number}
 use Rattle.rules.proofs.Promises.{reply_number_lem}
 use Rattle.amulingsad.proofs.amul_ask_end.Goals as goal
 
@@ -11,6 +10,6 @@ returns c =
     let a = c.args in
     let promise = c.ask_end.ensures in
     record {
-      number = c.number_of.ensures ∙ ap reply_number promise.answer_is ∙ reply_number_lem (end_answer a.state.now a.end);
+      number = c.number_of.ensures ∙ reply_number_lem _ (end_answer a.state.now a.end) promise.answer_is;
       memory = promise.memory_is;
     }

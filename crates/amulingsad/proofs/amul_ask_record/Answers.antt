@@ -1,7 +1,6 @@
 -- The reply's number, and the memory that `machine` leaves. Assumes nothing.
-use Rattle.std.proofs.Common.{ap, ◌∙◌}
+use Rattle.std.proofs.Common.{◌∙◌}
 use Rattle.rules.specs.Calls.{call_record, record_answer}
-use Rattle.rules.specs.Numbers.{reply_number}
 use Rattle.rules.proofs.Promises.{reply_number_lem}
 use Rattle.amulingsad.proofs.amul_ask_record.Goals as goal
 
@@ -10,7 +9,7 @@ unfolding call_record
 returns c =
     let a = c.args in
     let promise = c.ask_record.ensures in
-    let number = c.number_of.ensures ∙ ap reply_number promise.answer_is ∙ reply_number_lem (record_answer a.state.now a.«record») in
+    let number = c.number_of.ensures ∙ reply_number_lem _ (record_answer a.state.now a.«record») promise.answer_is in
     record {
       number = number;
       memory = promise.memory_is;
