@@ -14,7 +14,7 @@ use Rattle.rules.specs.Run as run
 use Rattle.rules.specs.Image.{block_size, data_size, block_count, headed, image_of, write_causes, written}
 use Rattle.rules.specs.Layout.{state_size, view}
 use Rattle.rules.specs.Calls.{sound_bytes, output_or, write_answer, write}
-use Rattle.rules.specs.Numbers.{reply_to, reply_number}
+use Rattle.rules.specs.Numbers.{Reply, answer_of, reply_to, reply_number}
 use Rattle.rules.proofs.Promises.{is_refused, reply_number_lem}
 use Rattle.rules.specs.Text.{text}
 use Rattle.rules.proofs.Rows.{all_passed}
@@ -22,7 +22,6 @@ use Rattle.words.specs.Parts.{put_at}
 use Rattle.words.proofs.Pads.{length_pad}
 use Rattle.image.proofs.Writes.{length_blocks}
 use Rattle.runner.specs.declared.running.Ran.{Ran}
-use Rattle.runner.specs.declared.running.Ran.TheVariants as ran
 use Rattle.runner.specs.Runs.{ran_reply}
 use Rattle.dump.specs.Shown.{state_text}
 use Rattle.printed.specs.Meaning.{verdict_in}
@@ -33,31 +32,31 @@ use Rattle.answers.specs.Answers.{dump_answered, peek_answered, poke_answered, p
 -- ---- a step
 
 -- what is printed with the reply to an ask
-pub step_replied : {A : Type 0} (name : List ℕ) (n : ℕ) {reply : Answer (Unit {0})} (a : Answer A) → reply ≡ reply_to a
+pub step_replied : {A : Type 0} (name : List ℕ) (n : ℕ) (reply : Reply) (a : Answer A) → answer_of reply ≡ reply_to a
     → step_text name n (reply_number reply) ≡ step_text name n (number_of a)
-step_replied name n a is = ap (λ (k : ℕ). step_text name n k) (ap reply_number is ∙ reply_number_lem a)
+step_replied name n reply a is = ap (λ (k : ℕ). step_text name n k) (reply_number_lem reply a is)
 
 -- ---- a run
 
 -- what is printed for it
-abbrev text_in : Ran → List ℕ
-text_in (ran.Made steps next v) = made_text steps next (verdict_in v)
-text_in (ran.refused n) = number_line (text "run: ") n
+abbrev text_in : Answer Ran → List ℕ
+text_in (done x) = made_text x.steps x.next (verdict_in x.verdict)
+text_in (refused n) = number_line (text "run: ") n
 
 reply_text : (a : Answer run.Ran) → text_in (ran_reply a) ≡ ran_text a
 reply_text (refused n) = refl
 reply_text (done x) = ap (λ (v : run.Verdict). made_text x.made x.next v) (named_back x.verdict)
 
 -- what is printed for the code's answer is what is said of the run
-pub run_text_lem : (a : Answer run.Ran) {given shown : Ran} → given ≡ shown → given ≡ ran_reply a → text_in shown ≡ ran_text a
-run_text_lem a {given} {shown} is e = ap text_in (sym is ∙ e) ∙ reply_text a
+pub run_text_lem : (a : Answer run.Ran) {said : Answer Ran} → said ≡ ran_reply a → text_in said ≡ ran_text a
+run_text_lem a e = ap text_in e ∙ reply_text a
 
 -- ---- a write
 
 -- refused: the number
 pub write_refused : (code : List ℕ) (a : Answer (List ℕ)) (n : ℕ) → refused n ≡ reply_to a
     → number_line (text "write ") n ≡ written_text code a
-write_refused code (refused k) n e = ap (λ (j : ℕ). number_line (text "write ") j) (ap reply_number e)
+write_refused code (refused k) n e = ap (λ (j : ℕ). number_line (text "write ") j) (ap number_of e)
 write_refused code (done x) n e = absurd (omega (arith, ap is_refused e))
 
 -- an image is as long as its blocks
@@ -74,7 +73,7 @@ unfolding block_count
 image_short code h = omega arith
 
 -- done: the code is no longer than a code may be
-pub write_done : (code room : List ℕ) (a : Answer (List ℕ)) → write_answer code room ≡ a → (done tt) ≡ reply_to a
+pub write_done : (code room : List ℕ) (a : Answer (List ℕ)) → write_answer code room ≡ a → done tt ≡ reply_to a
     → (length code ≤ code_limit) × (a ≡ done (written code room))
 unfolding write_answer write_causes
 write_done code room (refused n) is e = absurd (omega (arith, ap is_refused e))
@@ -89,7 +88,7 @@ pub record Written-image (code after : List ℕ) : Type 0 where
   pub front_is : take (block_size * block_count (length code)) after ≡ image_of code
   pub text_is : number_line (text "write ") 0 ++ hex_line (image_of code) ≡ write_answered code
 
-pub image_done : (code room : List ℕ) {after : List ℕ} → room ≡ image_room → (done tt) ≡ reply_to (write_answer code room)
+pub image_done : (code room : List ℕ) {after : List ℕ} → room ≡ image_room → done tt ≡ reply_to (write_answer code room)
     → after ≡ (write code room).memory → Written-image code after
 unfolding write written write_answered
 image_done code room {after} is e left =

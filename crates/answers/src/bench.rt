@@ -6,9 +6,9 @@ ghost use Rattle.text.specs.Written.{Written};
 ghost use Rattle.answers.specs.Sizes.{byte_size};
 ghost use Rattle.answers.specs.Answers.{dump_answered, peek_answered, poke_answered, poked, remark_answered, unknown_answered};
 
-use crate::lines::{front, put_hex_line, put_number_line};
+use crate::lines::{front, put_hex_line, put_refusal_line};
 use commands::LINE_LIMIT;
-use rules::UNSOUND;
+use rules::Refusal;
 use rules::offsets::STATE_SIZE;
 use text::{length_before, put_bytes};
 
@@ -21,7 +21,7 @@ pub fn dump(state: &[u8], out: &mut [u8]) -> usize
     ensures { Written out.old 0 (dump_answered state.now) out.new result }
 {
     if !soundness::is_sound(state) {
-        return put_number_line(out, 0, b"dump: refused ", UNSOUND as u64);
+        return put_refusal_line(out, b"dump: refused ", Refusal::Unsound);
     }
     dump::put_state(out, 0, state)
 }

@@ -2,12 +2,14 @@
 // the room that this takes.
 ghost use Rattle.std.specs.Prelude.{◌≡◌, ◌++◌, ◌+◌, ◌≤◌, length, take};
 ghost use Rattle.rules.specs.Text.{text as text_of};
+ghost use Rattle.rules.specs.Numbers.{refusal_number};
 ghost use Rattle.rules.specs.Printed.{verdict_text};
 ghost use Rattle.text.specs.Written.{Written};
 ghost use Rattle.printed.specs.Meaning.{verdict_in};
 ghost use Rattle.answers.specs.Answers.{number_line, hex_line};
 
 use printed::put_verdict;
+use rules::Refusal;
 use runner::Verdict;
 use text::{put_bytes, put_decimal, put_hex};
 
@@ -29,6 +31,14 @@ pub fn put_number_line(out: &mut [u8], at: usize, word: &[u8], n: u64) -> usize
     let number = put_bytes(out, at, word);
     let end = put_decimal(out, number, n);
     put_bytes(out, end, b"\n")
+}
+
+// What is said of a request that is refused: a word, the number of the refusal, and the line's end.
+pub fn put_refusal_line(out: &mut [u8], word: &[u8], refusal: Refusal) -> usize
+    requires { length (number_line word.now (refusal_number refusal)) ≤ length out.old }
+    ensures { Written out.old 0 (number_line word.now (refusal_number refusal)) out.new result }
+{
+    put_number_line(out, 0, word, refusal.number() as u64)
 }
 
 // Bytes in hex and the line's end.

@@ -10,11 +10,11 @@ ghost use Rattle.printed.specs.Meaning.{verdict_in};
 ghost use Rattle.answers.specs.Answers.{load_answered, write_answered, step_text, record_answered, end_answered, made_text, run_answered};
 ghost use Rattle.answers.specs.Answers.{counted_text, free_answered};
 
-use crate::lines::{put_hex_line, put_number_line, put_verdict_line};
+use crate::lines::{put_hex_line, put_number_line, put_refusal_line, put_verdict_line};
 use image::{BLOCK_LIMIT, BLOCK_SIZE, block_count};
 use machine::FreeEnds;
 use rules::{Refusal, number_of};
-use runner::{Ran, Verdict};
+use runner::Ran;
 use text::{put_bytes, put_decimal};
 
 // The bytes of the longest image.
@@ -45,17 +45,17 @@ pub fn write(code: &[u8], out: &mut [u8]) -> usize
 {
     let mut image = [0u8; IMAGE_ROOM];
     match image::write(code, &mut image) {
+        Err(refusal) => put_refusal_line(out, b"write ", refusal),
         Ok(()) => {
             let behind = put_number_line(out, 0, b"write ", 0);
             let size = image_size(code.len());
             put_hex_line(out, behind, &image[..size])
         }
-        Reply::Refused(n) => put_number_line(out, 0, b"write ", n as u64),
     }
 }
 
 // A step that was asked for: its name and number, and the number returned.
-fn put_step(out: &mut [u8], name: &[u8], n: u32, reply: Reply) -> usize
+fn put_step(out: &mut [u8], name: &[u8], n: u32, reply: Result<(), Refusal>) -> usize
     requires { length (step_text name.now n (reply_number reply)) ≤ length out.old }
     ensures { Written out.old 0 (step_text name.now n (reply_number reply)) out.new result }
 {
@@ -85,15 +85,15 @@ pub fn step_end(n: u32, state: &mut [u8], out: &mut [u8]) -> usize
 }
 
 // A run that was made.
-fn put_made(out: &mut [u8], steps: u16, next: u8, verdict: Verdict) -> usize
-    requires { length (made_text steps next (verdict_in verdict)) ≤ length out.old }
-    ensures { Written out.old 0 (made_text steps next (verdict_in verdict)) out.new result }
+fn put_made(out: &mut [u8], ran: Ran) -> usize
+    requires { length (made_text ran.steps ran.next (verdict_in ran.verdict)) ≤ length out.old }
+    ensures { Written out.old 0 (made_text ran.steps ran.next (verdict_in ran.verdict)) out.new result }
 {
     let count = put_bytes(out, 0, b"run: 0 ");
-    let space = put_decimal(out, count, steps as u64);
+    let space = put_decimal(out, count, ran.steps as u64);
     let position = put_bytes(out, space, b" ");
-    let behind = put_decimal(out, position, next as u64);
-    put_verdict_line(out, behind, verdict)
+    let behind = put_decimal(out, position, ran.next as u64);
+    put_verdict_line(out, behind, ran.verdict)
 }
 
 // `run BUDGET START`.
@@ -103,23 +103,19 @@ pub fn run(budget: u16, start: u32, state: &mut [u8], out: &mut [u8]) -> usize
     ensures leaves { state.new ≡ (call_run state.old budget start).memory }
 {
     match runner::run(state, budget, start) {
-        Ran::Made {
-            steps,
-            next,
-            verdict,
-        } => put_made(out, steps, next, verdict),
-        Ran::Refused(n) => put_number_line(out, 0, b"run: ", n as u64),
+        Err(refusal) => put_refusal_line(out, b"run: ", refusal),
+        Ok(ran) => put_made(out, ran),
     }
 }
 
 // The free ends where they were counted.
-fn put_counted(out: &mut [u8], count: u8, lowest: u8) -> usize
-    requires { length (counted_text count lowest) ≤ length out.old }
-    ensures { Written out.old 0 (counted_text count lowest) out.new result }
+fn put_counted(out: &mut [u8], free: FreeEnds) -> usize
+    requires { length (counted_text free.count free.lowest) ≤ length out.old }
+    ensures { Written out.old 0 (counted_text free.count free.lowest) out.new result }
 {
     let number = put_bytes(out, 0, b"free: ");
-    let behind = put_decimal(out, number, count as u64);
-    put_number_line(out, behind, b" ", lowest as u64)
+    let behind = put_decimal(out, number, free.count as u64);
+    put_number_line(out, behind, b" ", free.lowest as u64)
 }
 
 // `free`: the free ends.
@@ -128,7 +124,7 @@ pub fn free(state: &[u8], out: &mut [u8]) -> usize
     ensures { Written out.old 0 (free_answered state.now) out.new result }
 {
     match machine::free_ends(state) {
-        FreeEnds::Counted { count, lowest } => put_counted(out, count, lowest),
-        FreeEnds::Refused(n) => put_number_line(out, 0, b"free: refused ", n as u64),
+        Err(refusal) => put_refusal_line(out, b"free: refused ", refusal),
+        Ok(free) => put_counted(out, free),
     }
 }

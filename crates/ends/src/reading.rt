@@ -14,7 +14,7 @@ use crate::item::{Head, item_in};
 use crate::section::{get_cell, get_eight_counts};
 use crate::word::names;
 use rules::offsets::{COUNTS_AT, FREE_AT, PARTNERS_AT};
-use rules::{End, END_COUNT};
+use rules::{END_COUNT, End};
 use words::{get8, get64};
 
 // The word of free ends.

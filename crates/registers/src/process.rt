@@ -13,7 +13,7 @@ ghost use Rattle.registers.specs.Registers.{registers_of, pushed, popped, stored
 ghost use Rattle.registers.specs.Registers.{held_end};
 
 use crate::{Registers, listed, slots, values};
-use rules::{End, Slot, ENVIRONMENT_DEPTH, STACK_DEPTH};
+use rules::{ENVIRONMENT_DEPTH, End, STACK_DEPTH, Slot};
 
 // What a local slot stands for: an end, or none.
 #[derive(Clone, Copy)]

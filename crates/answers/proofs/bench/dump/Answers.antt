@@ -6,9 +6,9 @@ use Rattle.text.proofs.Texts.{written_as}
 use Rattle.answers.proofs.Cases.{dump_unsound, dump_sound}
 use Rattle.answers.proofs.bench.dump.Goals as goal
 
-pub put_number_line-requires : goal.put_number_line-requires
+pub put_refusal_line-requires : goal.put_refusal_line-requires
 unfolding text
-put_number_line-requires c =
+put_refusal_line-requires c =
     let test = c.is_sound in
     let unsound = sym test.ensures ∙ c.if-not-is_sound.true in
     let e = ap length (dump_unsound c.args.state.now c.requires.state_len unsound) in
@@ -19,7 +19,7 @@ unfolding text
 returns-then-not-is_sound c =
     let test = c.is_sound in
     let unsound = sym test.ensures ∙ c.if-not-is_sound.true in
-    written_as (dump_unsound c.args.state.now c.requires.state_len unsound) c.put_number_line.ensures
+    written_as (dump_unsound c.args.state.now c.requires.state_len unsound) c.put_refusal_line.ensures
 
 pub put_state-requires : goal.put_state-requires
 put_state-requires c =

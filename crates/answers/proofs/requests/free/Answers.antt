@@ -1,31 +1,22 @@
 -- Both numbers, or the one of the refusal. Assumes nothing.
-use Rattle.std.proofs.Common.{sym, ap, ◌∙◌, arith, length}
+use Rattle.std.proofs.Common.{ap, arith, length}
 use Rattle.rules.specs.Text.{text}
 use Rattle.text.proofs.Texts.{written_as}
-use Rattle.machine.specs.Answers.{free_answer}
 use Rattle.answers.specs.Answers.{free_ends_text, free_answered}
 use Rattle.answers.proofs.requests.free.Goals as goal
 
 pub put_counted-requires : goal.put_counted-requires
 unfolding free_answered
-put_counted-requires c =
-    let is = ap free_answer (sym c.in-Counted.is) ∙ c.free_ends.ensures in
-    omega (arith, ap length (ap free_ends_text is), c.requires)
+put_counted-requires c = omega (arith, ap length (ap free_ends_text c.in-Ok.ensures), c.requires)
 
-pub put_number_line-requires : goal.put_number_line-requires
+pub put_refusal_line-requires : goal.put_refusal_line-requires
 unfolding free_answered text
-put_number_line-requires c =
-    let is = ap free_answer (sym c.in-Refused.is) ∙ c.free_ends.ensures in
-    omega (arith, ap length (ap free_ends_text is), c.requires)
+put_refusal_line-requires c = omega (arith, ap length (ap free_ends_text c.in-Err.ensures), c.requires)
 
-pub returns-in-Counted : goal.returns-in-Counted
+pub returns-in-Ok : goal.returns-in-Ok
 unfolding free_answered
-returns-in-Counted c =
-    let is = ap free_answer (sym c.in-Counted.is) ∙ c.free_ends.ensures in
-    written_as (ap free_ends_text is) c.put_counted.ensures
+returns-in-Ok c = written_as (ap free_ends_text c.in-Ok.ensures) c.put_counted.ensures
 
-pub returns-in-Refused : goal.returns-in-Refused
+pub returns-in-Err : goal.returns-in-Err
 unfolding free_answered text
-returns-in-Refused c =
-    let is = ap free_answer (sym c.in-Refused.is) ∙ c.free_ends.ensures in
-    written_as (ap free_ends_text is) c.put_number_line.ensures
+returns-in-Err c = written_as (ap free_ends_text c.in-Err.ensures) c.put_refusal_line.ensures

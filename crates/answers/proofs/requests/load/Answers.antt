@@ -1,7 +1,6 @@
 -- The reply's number, and the memory that `machine` leaves. Assumes nothing.
 use Rattle.std.proofs.Common.{◌≡◌, ap, ◌∙◌, ℕ, arith, length}
 use Rattle.rules.specs.Calls.{load, load_answer}
-use Rattle.rules.specs.Numbers.{reply_number}
 use Rattle.rules.specs.Text.{text}
 use Rattle.rules.proofs.Promises.{reply_number_lem}
 use Rattle.text.proofs.Texts.{written_as}
@@ -17,7 +16,7 @@ unfolding load
 number c =
     let a = c.args in
     let reply = c.load-reply.ensures.answer_is in
-    c.number_of.ensures ∙ ap reply_number reply ∙ reply_number_lem (load_answer a.state.now a.image.now)
+    c.number_of.ensures ∙ reply_number_lem c.load-reply.result (load_answer a.state.now a.image.now) reply
 
 pub put_number_line-requires : goal.put_number_line-requires
 unfolding load_answered text

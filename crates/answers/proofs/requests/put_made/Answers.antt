@@ -9,26 +9,26 @@ use Rattle.answers.proofs.requests.put_made.Goals as goal
 pub put_bytes-count-requires : goal.put_bytes-count-requires
 put_bytes-count-requires c =
     let a = c.args in
-    omega (arith, made_length a.steps a.next (verdict_in a.verdict), c.requires)
+    omega (arith, made_length a.ran.steps a.ran.next (verdict_in a.ran.verdict), c.requires)
 
 pub put_decimal-space-requires : goal.put_decimal-space-requires
 put_decimal-space-requires c =
     let a = c.args in
-    omega (arith, made_length a.steps a.next (verdict_in a.verdict), c.requires, c.put_bytes-count.ensures.place)
+    omega (arith, made_length a.ran.steps a.ran.next (verdict_in a.ran.verdict), c.requires, c.put_bytes-count.ensures.place)
 
 pub put_bytes-position-requires : goal.put_bytes-position-requires
 put_bytes-position-requires c =
     let a = c.args in
     let p = c.put_bytes-count.ensures.place in
     let q = c.put_decimal-space.ensures.place in
-    omega (arith, made_length a.steps a.next (verdict_in a.verdict), c.requires, p, q)
+    omega (arith, made_length a.ran.steps a.ran.next (verdict_in a.ran.verdict), c.requires, p, q)
 
 pub put_decimal-behind-requires : goal.put_decimal-behind-requires
 put_decimal-behind-requires c =
     let a = c.args in
     let p = c.put_bytes-count.ensures.place in
     let q = c.put_decimal-space.ensures.place in
-    omega (arith, made_length a.steps a.next (verdict_in a.verdict), c.requires, p, q, c.put_bytes-position.ensures.place)
+    omega (arith, made_length a.ran.steps a.ran.next (verdict_in a.ran.verdict), c.requires, p, q, c.put_bytes-position.ensures.place)
 
 pub put_verdict_line-requires : goal.put_verdict_line-requires
 put_verdict_line-requires c =
@@ -36,13 +36,13 @@ put_verdict_line-requires c =
     let p = c.put_bytes-count.ensures.place in
     let q = c.put_decimal-space.ensures.place in
     let r = c.put_bytes-position.ensures.place in
-    omega (arith, made_length a.steps a.next (verdict_in a.verdict), c.requires, p, q, r, c.put_decimal-behind.ensures.place)
+    omega (arith, made_length a.ran.steps a.ran.next (verdict_in a.ran.verdict), c.requires, p, q, r, c.put_decimal-behind.ensures.place)
 
 pub returns : goal.returns
 unfolding text
 returns c =
     let a = c.args in
-    written_as (made_text_lem a.steps a.next (verdict_in a.verdict))
+    written_as (made_text_lem a.ran.steps a.ran.next (verdict_in a.ran.verdict))
     (written_more c.put_bytes-count.ensures
     (written_more c.put_decimal-space.ensures
     (written_more c.put_bytes-position.ensures

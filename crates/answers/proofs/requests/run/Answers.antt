@@ -11,34 +11,30 @@ pub put_made-requires : goal.put_made-requires
 unfolding run_answered
 put_made-requires c =
     let a = c.args in
-    let answer = run_answer a.state.now a.budget a.start in
-    omega (arith, ap length (run_text_lem answer c.in-Made.is c.run.ensures.answer_is), c.requires)
+    omega (arith, ap length (run_text_lem (run_answer a.state.now a.budget a.start) c.in-Ok.ensures.answer_is), c.requires)
 
-pub put_number_line-requires : goal.put_number_line-requires
+pub put_refusal_line-requires : goal.put_refusal_line-requires
 unfolding run_answered text
-put_number_line-requires c =
+put_refusal_line-requires c =
     let a = c.args in
-    let answer = run_answer a.state.now a.budget a.start in
-    omega (arith, ap length (run_text_lem answer c.in-Refused.is c.run.ensures.answer_is), c.requires)
+    omega (arith, ap length (run_text_lem (run_answer a.state.now a.budget a.start) c.in-Err.ensures.answer_is), c.requires)
 
-pub returns-in-Made : goal.returns-in-Made
+pub returns-in-Ok : goal.returns-in-Ok
 unfolding run_answered
-returns-in-Made c =
+returns-in-Ok c =
     let a = c.args in
-    let promise = c.run.ensures in
-    let answer = run_answer a.state.now a.budget a.start in
+    let promise = c.in-Ok.ensures in
     record {
-      says = written_as (run_text_lem answer c.in-Made.is promise.answer_is) c.put_made.ensures;
+      says = written_as (run_text_lem (run_answer a.state.now a.budget a.start) promise.answer_is) c.put_made.ensures;
       leaves = promise.memory_is;
     }
 
-pub returns-in-Refused : goal.returns-in-Refused
+pub returns-in-Err : goal.returns-in-Err
 unfolding run_answered text
-returns-in-Refused c =
+returns-in-Err c =
     let a = c.args in
-    let promise = c.run.ensures in
-    let answer = run_answer a.state.now a.budget a.start in
+    let promise = c.in-Err.ensures in
     record {
-      says = written_as (run_text_lem answer c.in-Refused.is promise.answer_is) c.put_number_line.ensures;
+      says = written_as (run_text_lem (run_answer a.state.now a.budget a.start) promise.answer_is) c.put_refusal_line.ensures;
       leaves = promise.memory_is;
     }

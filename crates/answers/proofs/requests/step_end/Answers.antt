@@ -11,14 +11,14 @@ pub put_step-requires : goal.put_step-requires
 unfolding end_answered call_end text
 put_step-requires c =
     let a = c.args in
-    let e = step_replied (text "E ") a.n (end_answer a.state.now a.n) c.ask_end-reply.ensures.answer_is in
+    let e = step_replied (text "E ") a.n _ (end_answer a.state.now a.n) c.ask_end-reply.ensures.answer_is in
     omega (arith, ap length e, c.requires)
 
 pub returns : goal.returns
 unfolding end_answered call_end text
 returns c =
     let a = c.args in
-    let e = step_replied (text "E ") a.n (end_answer a.state.now a.n) c.ask_end-reply.ensures.answer_is in
+    let e = step_replied (text "E ") a.n _ (end_answer a.state.now a.n) c.ask_end-reply.ensures.answer_is in
     record {
       says = written_as e c.put_step.ensures;
       leaves = c.ask_end-reply.ensures.memory_is;

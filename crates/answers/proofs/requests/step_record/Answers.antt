@@ -11,14 +11,14 @@ pub put_step-requires : goal.put_step-requires
 unfolding record_answered call_record text
 put_step-requires c =
     let a = c.args in
-    let e = step_replied (text "R ") a.n (record_answer a.state.now a.n) c.ask_record-reply.ensures.answer_is in
+    let e = step_replied (text "R ") a.n _ (record_answer a.state.now a.n) c.ask_record-reply.ensures.answer_is in
     omega (arith, ap length e, c.requires)
 
 pub returns : goal.returns
 unfolding record_answered call_record text
 returns c =
     let a = c.args in
-    let e = step_replied (text "R ") a.n (record_answer a.state.now a.n) c.ask_record-reply.ensures.answer_is in
+    let e = step_replied (text "R ") a.n _ (record_answer a.state.now a.n) c.ask_record-reply.ensures.answer_is in
     record {
       says = written_as e c.put_step.ensures;
       leaves = c.ask_record-reply.ensures.memory_is;
