@@ -73,11 +73,11 @@ pub fn put_signed(out: &mut [u8], at: usize, n: i32) -> usize
     requires { at + length (signed_decimal n) ≤ length out.old }
     ensures { Written out.old at (signed_decimal n) out.new result }
 {
-    let bits = words::bits(n) as u64;
     if n < 0 {
-        return put_lettered(out, at, b'-', 4294967296 - bits);
+        out[at] = b'-';
+        return put_decimal(out, at + 1, u64::from(n.unsigned_abs()));
     }
-    put_decimal(out, at, bits)
+    put_decimal(out, at, u64::from(n.unsigned_abs()))
 }
 
 // A hex digit.
