@@ -4,9 +4,10 @@ use mathlib.Core.Path.{◌≡◌, refl, sym, ap, ◌∙◌}
 use mathlib.Core.List.{List, [], ◌∷◌, ◌++◌}
 use Prim.Native.Nat.{ℕ, suc, ◌+◌, ◌-◌, ◌≤◌, ◌<◌}
 use native.Mathlib.Nat.{add-zero, zero-add, add_assoc, suc-add, suc_inj}
+use native.Mathlib.Numerals.{add-one}
 use native.Mathlib.Omega.{arith}
-use lib.ListN.{length, set, take, drop, length-set, length-drop, take-append-drop}
-use lib.Seq.{set-append_left, length-take-le, drop-drop}
+use lib.ListN.{length, get_or, set, take, drop, length-set, length-drop, take-append-drop}
+use lib.Seq.{set-append_left, take-suc, length-take-le, drop-drop}
 use borrow.Rule.Slice.PartMut.{put_mid}
 use Rattle.words.specs.Parts.{put_at}
 
@@ -74,3 +75,10 @@ pub put_middle : (m : List ℕ) (at : ℕ) (bytes : List ℕ) {ys : List ℕ} �
 put_middle m at bytes h e =
     let k : at + length bytes - at ≡ length bytes = omega arith in
     rw (e, k, put_split m at bytes h, drop-drop)
+
+-- a turn of a loop that writes one byte after the other: one more behind the first i
+pub put_next : (m : List ℕ) (at : ℕ) (bytes : List ℕ) (i : ℕ) → i < length bytes
+    → set (put_at m at (take i bytes)) (at + i) (get_or bytes i 0) ≡ put_at m at (take (i + 1) bytes)
+put_next m at bytes i h =
+    let e : length (take i bytes) ≡ i = length-take-le i bytes (omega arith) in
+    rw (add-one, take-suc bytes i 0 h, put_append m at (take i bytes) (get_or bytes i 0 ∷ []), e)
