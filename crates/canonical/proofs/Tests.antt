@@ -1,7 +1,8 @@
 -- Laws of tests that a loop makes one by one: over the numbers below n and over a list, one that fails decides, and all that pass decide.
 -- Assumes nothing.
 use mathlib.Core.Path.{◌≡◌, refl, sym, ap, ◌∙◌}
-use mathlib.Core.Bool.{Bool, true, false, not}
+use mathlib.Core.Bool.{Bool, true, false, not, ◌&&◌}
+use Rattle.std.specs.List.{list_all}
 use mathlib.Core.List.{List, [], ◌∷◌, ◌++◌}
 use Prim.Native.Nat.{ℕ, zero, suc, ◌+◌, ◌≤◌, ◌<◌}
 use native.Mathlib.Nat.{le_of_suc-le-suc}
@@ -76,9 +77,15 @@ module _ (test : ℕ → Bool) where
 -- ---- over a list
 
 module _ {A : Type 0} (test : A → Bool) where
-  pub all_none : all test [] ≡ true
+  -- the test of all is std's
+  pub all_is : (l : List A) → all test l ≡ list_all test l
   unfolding all
-  all_none = refl
+  all_is [] = refl
+  all_is (x ∷ l) = rw (all_is l) (joined (test x) (list_all test l))
+    where
+      joined : (a b : Bool) → only_if a b ≡ (a && b)
+      joined true b = refl
+      joined false b = refl
 
   pub all_more : (l : List A) (i : ℕ) (d : A) → i < length l
       → all test (take (i + 1) l) ≡ only_if (all test (take i l)) (test (get_or l i d))
@@ -98,15 +105,3 @@ module _ {A : Type 0} (test : A → Bool) where
       go (x ∷ l) zero h = ends_true (test x)
       go (x ∷ l) (suc i) h =
           ap (only_if (test x)) (go l i (le_of_suc-le-suc h)) ∙ join (test x) (all test (take i l)) (test (get_or l i d))
-
-  pub all_more_true : (l : List A) (i : ℕ) (d : A) → i < length l → all test (take i l) ≡ true → test (get_or l i d) ≡ true
-      → all test (take (i + 1) l) ≡ true
-  all_more_true l i d h t u = all_more l i d h ∙ both t u
-
-  pub all_fails : (l : List A) (i : ℕ) (d : A) → i < length l → test (get_or l i d) ≡ false → all test l ≡ false
-  unfolding all
-  all_fails [] i d h f = absurd (omega arith)
-  all_fails (x ∷ l) zero d h f = rw f
-  all_fails (x ∷ l) (suc i) d h f =
-      let rest = all_fails l i d (le_of_suc-le-suc h) f in
-      fails (only_if (test x) (all test l)) (λ t. true_is_not_false (right_of (test x) (all test l) t) rest)

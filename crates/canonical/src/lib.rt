@@ -19,7 +19,6 @@ use rules::{CODE_LIMIT, END_COUNT, RECORD_COUNT};
 use unused::all_zero;
 use words::{get16, get64};
 
-pub mod counts; // counts.rt: a byte that is a count
 mod unused; // unused.rt: bytes not in use, which must all be zero
 mod records; // records.rt: a record's bytes
 mod queues; // queues.rt: an end's bytes
@@ -29,7 +28,7 @@ fn code_is_canonical(m: &[u8]) -> bool
     requires { length m.now ≡ state_size }
     ensures { result ≡ canonical_code m.now }
 {
-    let n = get16(m, 0) as usize;
+    let n = usize::from(get16(m, 0));
     if CODE_LIMIT < n {
         return false;
     }
@@ -41,14 +40,12 @@ fn records_are_canonical(m: &[u8]) -> bool
     requires { length m.now ≡ state_size }
     ensures { result ≡ every (record_test m.now) record_count }
 {
-    let mut i = 0;
-    while i < RECORD_COUNT {
+    for i in 0..RECORD_COUNT {
         let from = RECORDS_AT + RECORD_SIZE * i;
         let to = from + RECORD_SIZE;
         if !record_is_canonical(&m[from..to]) {
             return false;
         }
-        i += 1;
     }
     true
 }
@@ -66,8 +63,7 @@ fn ends_are_canonical(m: &[u8]) -> bool
     ensures { result ≡ every (end_test m.now) end_count }
 {
     let word = get64(m, FREE_AT);
-    let mut e = 0;
-    while e < END_COUNT {
+    for e in 0..END_COUNT {
         let from = QUEUES_AT + QUEUE_SIZE * e;
         let to = from + QUEUE_SIZE;
         if !end_is_canonical(
@@ -78,7 +74,6 @@ fn ends_are_canonical(m: &[u8]) -> bool
         ) {
             return false;
         }
-        e += 1;
     }
     true
 }

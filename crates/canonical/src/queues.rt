@@ -4,7 +4,6 @@ ghost use Rattle.rules.specs.Limits.{queue_depth};
 ghost use Rattle.rules.specs.Layout.{queue_size, split_cell};
 ghost use Rattle.canonical.specs.Canonical.{last_fits, is_datum, is_last, cells_in, canonical_cells, canonical_queue, canonical_end};
 
-use crate::counts::wide;
 use crate::unused::all_zero;
 use rules::offsets::{CELL_SIZE, QUEUE_SIZE};
 use rules::{END_COUNT, QUEUE_DEPTH, RECORD_COUNT};
@@ -50,8 +49,7 @@ fn cells_are_canonical(queue: &[u8], count: usize) -> bool
     requires { (length queue.now ≡ queue_size) × (count ≤ queue_depth) }
     ensures { result ≡ canonical_cells (take count (cells_in queue.now)) }
 {
-    let mut i = 0;
-    while i < count {
+    for i in 0..count {
         let cell = get64(queue, CELL_SIZE * i);
         if !is_datum(cell) {
             if i + 1 < count {
@@ -59,7 +57,6 @@ fn cells_are_canonical(queue: &[u8], count: usize) -> bool
             }
             return is_last(cell);
         }
-        i += 1;
     }
     true
 }
@@ -69,7 +66,7 @@ fn queue_is_canonical(count: u8, queue: &[u8]) -> bool
     requires { length queue.now ≡ queue_size }
     ensures { result ≡ canonical_queue count queue.now }
 {
-    let items = wide(count);
+    let items = usize::from(count);
     if QUEUE_DEPTH < items {
         return false;
     }

@@ -4,7 +4,6 @@ ghost use Rattle.rules.specs.SoundTest.{all};
 ghost use Rattle.rules.specs.Layout.{record_size};
 ghost use Rattle.canonical.specs.Canonical.{slot_fits, canonical_registers, canonical_record};
 
-use crate::counts::wide;
 use crate::unused::all_zero;
 use rules::offsets::{
     ENVIRONMENT_COUNT_FROM, ENVIRONMENT_FROM, RECORD_SIZE, SLOTS_FROM, STACK_COUNT_FROM,
@@ -16,14 +15,7 @@ use rules::{END_COUNT, ENVIRONMENT_DEPTH, STACK_DEPTH};
 fn slots_fit(slots: &[u8]) -> bool
     ensures { result ≡ all slot_fits slots.now }
 {
-    let mut c = 0;
-    while c < slots.len() {
-        if (END_COUNT as u8) < slots[c] {
-            return false;
-        }
-        c += 1;
-    }
-    true
+    slots.iter().all(|slot| *slot <= END_COUNT as u8)
 }
 
 // A record in use.
@@ -31,11 +23,11 @@ fn registers_are_canonical(bytes: &[u8]) -> bool
     requires { length bytes.now ≡ record_size }
     ensures { result ≡ canonical_registers bytes.now }
 {
-    let stacked = wide(bytes[STACK_COUNT_FROM]);
+    let stacked = usize::from(bytes[STACK_COUNT_FROM]);
     if STACK_DEPTH < stacked {
         return false;
     }
-    let bound = wide(bytes[ENVIRONMENT_COUNT_FROM]);
+    let bound = usize::from(bytes[ENVIRONMENT_COUNT_FROM]);
     if ENVIRONMENT_DEPTH < bound {
         return false;
     }

@@ -7,10 +7,8 @@ pub fn all_zero(bytes: &[u8]) -> bool
     ensures { result ≡ all_zero bytes.now }
 {
     let mut any = 0;
-    let mut i = 0;
-    while i < bytes.len() {
-        any = any | bytes[i];
-        i += 1;
+    for b in bytes {
+        any |= *b;
     }
     any == 0
 }

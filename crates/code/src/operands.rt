@@ -1,8 +1,6 @@
 // The operands of an instruction, read from the code: byte k of the instruction at a place, a place in two bytes and a signed number in
 // four, high byte first. Each asks only that its bytes lie in the code.
 ghost use Rattle.std.specs.Prelude.{◌≡◌, ◌+◌, ◌*◌, ◌<◌, length};
-ghost use Rattle.std.specs.Int.{w32};
-ghost use Rattle.std.proofs.Common.{to_z};
 ghost use Rattle.rules.specs.Instruction.{byte_at, place_at, signed_at};
 ghost use Rattle.rules.specs.Numbers.{slot_number};
 
@@ -11,24 +9,13 @@ use rules::Slot;
 pub fn join16(high: u8, low: u8) -> u16
     ensures { result ≡ 256 * high + low }
 {
-    256 * (high as u16) + (low as u16)
+    u16::from_be_bytes([high, low])
 }
 
 fn join32(high: u16, low: u16) -> u32
     ensures { result ≡ 65536 * high + low }
 {
-    65536 * (high as u32) + (low as u32)
-}
-
-// The number whose two's complement these bits are.
-fn signed(bits: u32) -> i32
-    ensures { result ≡ to_z w32 bits }
-{
-    if bits < 2147483648 {
-        bits as i32
-    } else {
-        !((4294967295 - bits) as i32)
-    }
+    65536 * u32::from(high) + u32::from(low)
 }
 
 pub fn byte_at(code: &[u8], place: usize, k: usize) -> u8
@@ -56,5 +43,5 @@ pub fn signed_at(code: &[u8], place: usize, k: usize) -> i32
     requires { place + (k + 3) < length code.now }
     ensures { result ≡ signed_at code.now place k }
 {
-    signed(join32(place_at(code, place, k), place_at(code, place, k + 2)))
+    join32(place_at(code, place, k), place_at(code, place, k + 2)).cast_signed()
 }

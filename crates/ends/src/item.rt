@@ -3,7 +3,6 @@ ghost use Rattle.std.specs.Prelude.{◌≡◌};
 ghost use Rattle.ends.specs.Items.{item_of, head_in, item_cell, cell_item};
 
 use rules::{End, Record};
-use words::{bits, signed};
 
 // A value, a handle, a split with two ends, a close, or a wait naming a record.
 #[derive(Clone, Copy)]
@@ -27,7 +26,7 @@ pub fn cell_of(item: Item) -> u64
     ensures { result ≡ item_cell (item_of item) }
 {
     match item {
-        Item::Value(v) => 1 + 256 * (bits(v) as u64),
+        Item::Value(v) => 1 + 256 * u64::from(v.cast_unsigned()),
         Item::Handle(n) => 2 + 256 * (n as u64),
         Item::Split(p, q) => 3 + 256 * (p.0 as u64 + 256 * (q.0 as u64)),
         Item::Close => 4,
@@ -41,7 +40,7 @@ pub fn item_in(cell: u64) -> Head
 {
     let payload = cell / 256;
     match cell % 256 {
-        1 => Head::Item(Item::Value(signed((payload % 4294967296) as u32))),
+        1 => Head::Item(Item::Value(((payload % 4294967296) as u32).cast_signed())),
         2 => Head::Item(Item::Handle((payload % 256) as u8)),
         3 => Head::Item(Item::Split(End((payload % 256) as u8), End((payload / 256 % 256) as u8))),
         4 => Head::Item(Item::Close),

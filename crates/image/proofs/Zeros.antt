@@ -1,14 +1,16 @@
 -- Laws of the search for a nonzero byte, from byte i on. Assumes nothing.
 use mathlib.Core.Path.{◌≡◌, refl, sym, ◌∙◌}
-use mathlib.Core.Bool.{true, false}
+use mathlib.Core.Bool.{Bool, true, false, not, ◌||◌}
 use mathlib.Core.List.{List, [], ◌∷◌}
-use Prim.Native.Nat.{ℕ, zero, suc, ◌+◌, ◌≤◌, ◌<◌}
+use Prim.Native.Nat.{ℕ, zero, suc, ◌+◌, ◌<◌}
 use native.Mathlib.Decide.{ℕ_discrete}
 use native.Mathlib.Numerals.{add-one}
 use native.Mathlib.Omega.{arith}
 use borrow.Author.Tests.{eq-eqb, ne_eqb}
-use lib.ListN.{length, get_or, drop, drop_of_length-le}
+use lib.Dec.{eqb}
+use lib.ListN.{length, get_or, drop}
 use lib.Seq.{drop-cons}
+use Rattle.std.specs.List.{list_any}
 use Rattle.rules.specs.Bytes.{pad}
 use Rattle.rules.specs.Image.{any_nonzero}
 
@@ -21,9 +23,16 @@ module _ (bytes : List ℕ) (i : ℕ) where
   unfolding any_nonzero
   zeros_stop h e = rw (drop-cons bytes i 0 h, ne_eqb (get_or bytes i 0) 0 e, any_nonzero)
 
-  pub zeros_end : length bytes ≤ i → any_nonzero (drop i bytes) ≡ false
-  unfolding any_nonzero
-  zeros_end h = rw (drop_of_length-le bytes h)
+-- the search is that of std's `any`
+pub any_nonzero_is : (bytes : List ℕ) → any_nonzero bytes ≡ list_any (λ (b : ℕ). not (eqb b 0)) bytes
+unfolding any_nonzero
+any_nonzero_is [] = refl
+any_nonzero_is (b ∷ bytes) =
+    let rest : List ℕ → Bool = list_any (λ (b : ℕ). not (eqb b 0)) in
+    elim (eqb b 0) as (λ (t : Bool). (elim t [ true ↦ any_nonzero bytes | false ↦ true ]) ≡ (not t || rest bytes)) [
+      | true ↦ any_nonzero_is bytes
+      | false ↦ refl
+    ]
 
 -- padding is zero
 pub zeros_pad : (n : ℕ) → any_nonzero (pad n 0 []) ≡ false

@@ -17,13 +17,6 @@ pub const HEAD_SIZE: usize = 4;
 // The words of a block's data.
 const WORD_COUNT: usize = 255;
 
-// A word that is added up.
-fn wide(n: u16) -> u32
-    ensures { result ≡ n }
-{
-    n as u32
-}
-
 // All words are added up first: 255 of them fit in 24 bits.
 fn word_sum(bytes: &[u8]) -> u32
     requires { length bytes.now ≡ data_size }
@@ -31,10 +24,8 @@ fn word_sum(bytes: &[u8]) -> u32
     ensures upper_bound { result ≤ 65535 * 255 }
 {
     let mut sum = 0;
-    let mut i = 0;
-    while i < WORD_COUNT {
-        sum += wide(words::get16_high(bytes, 2 * i));
-        i += 1;
+    for i in 0..WORD_COUNT {
+        sum += u32::from(words::get16_high(bytes, 2 * i));
     }
     sum
 }

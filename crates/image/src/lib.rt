@@ -7,7 +7,7 @@ mod block;
 mod reading;
 mod writing;
 
-ghost use Rattle.std.specs.Prelude.{◌≡◌, ◌+◌, ◌≤◌, min, length};
+ghost use Rattle.std.specs.Prelude.{◌≡◌, ◌+◌, ◌≤◌, length};
 ghost use Rattle.rules.specs.Refusal.{done};
 ghost use Rattle.rules.specs.Calls.{write, write_answer};
 ghost use Rattle.rules.specs.Image.{read_image, code_length, code_in};
@@ -63,16 +63,6 @@ pub fn read(image: &[u8]) -> Result<usize, Refusal>
     reading::read_data(image, count)
 }
 
-// The lesser of two numbers.
-fn least(a: usize, b: usize) -> usize
-    ensures { result ≡ min a b }
-{
-    if a < b {
-        return a;
-    }
-    b
-}
-
 // The code of an image that reads goes into `out` from `at` on. It stands in runs, one for each block: data byte p of block i stands at
 // p + 2 i, behind the checks of the blocks before.
 pub fn copy_code(image: &[u8], out: &mut [u8], at: usize)
@@ -83,11 +73,9 @@ pub fn copy_code(image: &[u8], out: &mut [u8], at: usize)
     let count = image.len() / BLOCK_SIZE;
     let end = HEAD_SIZE + reading::code_length(image);
     let mut p = HEAD_SIZE;
-    let mut i = 0;
-    while i < count {
-        let stop = least(DATA_SIZE * (i + 1), end);
+    for i in 0..count {
+        let stop = (DATA_SIZE * (i + 1)).min(end);
         words::copy(&image[p + 2 * i..stop + 2 * i], out, at + (p - HEAD_SIZE));
         p = stop;
-        i += 1;
     }
 }

@@ -14,13 +14,11 @@ pub fn any_check_wrong(image: &[u8], count: usize) -> bool
     requires { block_size * count ≤ length image.now }
     ensures { result ≡ any_check_wrong count image.now }
 {
-    let mut i = 0;
-    while i < count {
+    for i in 0..count {
         let at = BLOCK_SIZE * i;
         if !crate::block::right(&image[at..at + BLOCK_SIZE]) {
             return true;
         }
-        i += 1;
     }
     false
 }
@@ -29,14 +27,7 @@ pub fn any_check_wrong(image: &[u8], count: usize) -> bool
 fn any_nonzero(bytes: &[u8]) -> bool
     ensures { result ≡ any_nonzero bytes.now }
 {
-    let mut i = 0;
-    while i < bytes.len() {
-        if bytes[i] != 0 {
-            return true;
-        }
-        i += 1;
-    }
-    false
+    bytes.iter().any(|b| *b != 0)
 }
 
 // The code length that an image states.
@@ -44,7 +35,7 @@ pub fn code_length(image: &[u8]) -> usize
     requires { block_size ≤ length image.now }
     ensures { result ≡ high_at image.now 2 }
 {
-    words::get16_high(image, 2) as usize
+    usize::from(words::get16_high(image, 2))
 }
 
 // 22 and 23 of an image of `count` whole blocks.

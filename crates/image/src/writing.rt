@@ -36,10 +36,8 @@ fn fill(code: &[u8], from: usize, bytes: &mut [u8])
     requires from_bound { from ≤ data_size * block_limit }
     ensures { bytes.new ≡ pad (length bytes.old) 0 (drop from (headed code.now)) }
 {
-    let mut i = 0;
-    while i < bytes.len() {
-        bytes[i] = data_byte(code, from + i);
-        i += 1;
+    for (i, byte) in bytes.iter_mut().enumerate() {
+        *byte = data_byte(code, from + i);
     }
 }
 
@@ -63,10 +61,8 @@ pub fn write_blocks(code: &[u8], out: &mut [u8], count: usize)
     ensures { out.new
         ≡ blocks count (pad (data_size * count) 0 (headed code.now)) ++ drop (block_size * count) out.old }
 {
-    let mut i = 0;
-    while i < count {
+    for i in 0..count {
         let at = BLOCK_SIZE * i;
         write_block(code, DATA_SIZE * i, &mut out[at..at + BLOCK_SIZE]);
-        i += 1;
     }
 }

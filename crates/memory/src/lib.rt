@@ -24,11 +24,7 @@ fn clear(m: &mut [u8], to: usize)
     requires { to ≤ length m.old }
     ensures { m.new ≡ put_at m.old 0 (pad to 0 []) }
 {
-    let mut i = 0;
-    while i < to {
-        m[i] = 0;
-        i += 1;
-    }
+    m[..to].fill(0);
 }
 
 // The cells of all queues, one after the other.
@@ -36,10 +32,8 @@ fn put_cells(m: &mut [u8], cells: &[u64])
     requires { (length m.old ≡ state_size) × (length cells.now ≡ cell_count) }
     ensures { m.new ≡ put_at m.old queues_at (flat (bytes_of cell_size) cells.now) }
 {
-    let mut k = 0;
-    while k < CELL_COUNT {
-        words::put64(m, QUEUES_AT + CELL_SIZE * k, cells[k]);
-        k += 1;
+    for (k, cell) in cells.iter().enumerate() {
+        words::put64(m, QUEUES_AT + CELL_SIZE * k, *cell);
     }
 }
 
@@ -48,10 +42,10 @@ pub fn start(m: &mut [u8])
     requires { length m.old ≡ state_size }
     ensures { m.new ≡ layout (start []) }
 {
-    let cells = [0; 512];
+    let cells = [0; CELL_COUNT];
     clear(m, QUEUES_AT);
     put_cells(m, &cells);
-    words::put8(m, RECORDS_AT, 1);
+    m[RECORDS_AT] = 1;
     words::put64(m, FREE_AT, ALL_FREE);
 }
 
@@ -60,7 +54,7 @@ pub fn code(m: &[u8]) -> &[u8]
     requires { (length m.now ≡ state_size) × (number_at 2 m.now 0 ≤ code_limit) }
     ensures { result.now ≡ (view m.now).code }
 {
-    let size = words::get16(m, 0) as usize;
+    let size = usize::from(words::get16(m, 0));
     &m[CODE_AT..CODE_AT + size]
 }
 

@@ -13,7 +13,6 @@ ghost use Rattle.soundness.specs.Counts.{slots_in_all, places_in_all, Below, Add
 
 use crate::counts::add_one;
 use crate::lasts::{Last, last_of};
-use canonical::counts::wide;
 use canonical::is_free;
 use rules::offsets::{FREE_AT, RECORD_SIZE, RECORDS_AT, SLOTS_FROM, STACK_FROM};
 use rules::{END_COUNT, RECORD_COUNT};
@@ -27,7 +26,7 @@ fn count_slot(counts: &mut [u16], slot: u8)
     if slot == 0 {
         return;
     }
-    add_one(counts, wide(slot - 1));
+    add_one(counts, usize::from(slot - 1));
 }
 
 fn count_slots(counts: &mut [u16], slots: &[u8])
@@ -78,8 +77,8 @@ fn count_carried(counts: &mut [u16], last: Last)
     match last {
         Last::Nothing => {}
         Last::Split(p, q) => {
-            add_one(counts, wide(p.0));
-            add_one(counts, wide(q.0));
+            add_one(counts, usize::from(p.0));
+            add_one(counts, usize::from(q.0));
         }
         Last::Close => {}
         Last::Wait(_) => {}

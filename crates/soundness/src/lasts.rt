@@ -7,7 +7,6 @@ ghost use Rattle.rules.specs.Layout.{state_size, view};
 ghost use Rattle.canonical.specs.Canonical.{end_test};
 ghost use Rattle.soundness.specs.Lasts.{last_meaning, is_item, last_in};
 
-use canonical::counts::wide;
 use rules::offsets::{CELL_SIZE, COUNTS_AT, QUEUE_SIZE, QUEUES_AT};
 use rules::{End, Record};
 use words::get64;
@@ -47,7 +46,7 @@ pub fn last_of(m: &[u8], e: usize) -> Last
     ensures is { last_meaning result ≡ last_of (end_at (view m.now) e) }
     ensures within { last_within (last_meaning result) ≡ true }
 {
-    let count = wide(m[COUNTS_AT + e]);
+    let count = usize::from(m[COUNTS_AT + e]);
     if count == 0 {
         return Last::Nothing;
     }

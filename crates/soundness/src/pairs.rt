@@ -5,7 +5,6 @@ ghost use Rattle.rules.specs.Bytes.{number_at};
 ghost use Rattle.rules.specs.SoundTest.{every, paired_test};
 ghost use Rattle.rules.specs.Layout.{free_size, free_at, state_size, view};
 
-use canonical::counts::wide;
 use canonical::is_free;
 use rules::END_COUNT;
 use rules::offsets::{FREE_AT, PARTNERS_AT};
@@ -18,7 +17,7 @@ fn is_paired(m: &[u8], word: u64, e: usize) -> bool
     if is_free(word, e) {
         return true;
     }
-    let partner = wide(m[PARTNERS_AT + e]);
+    let partner = usize::from(m[PARTNERS_AT + e]);
     if partner == e {
         return false;
     }
@@ -28,7 +27,7 @@ fn is_paired(m: &[u8], word: u64, e: usize) -> bool
     if is_free(word, partner) {
         return false;
     }
-    wide(m[PARTNERS_AT + partner]) == e
+    usize::from(m[PARTNERS_AT + partner]) == e
 }
 
 pub fn ends_are_paired(m: &[u8]) -> bool

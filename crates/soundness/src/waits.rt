@@ -11,7 +11,6 @@ ghost use Rattle.soundness.specs.Counts.{Below, Added, Counted};
 
 use crate::counts::add_one;
 use crate::lasts::{Last, last_of};
-use canonical::counts::wide;
 use rules::offsets::{RECORD_SIZE, RECORDS_AT};
 use rules::{END_COUNT, RECORD_COUNT};
 
@@ -25,7 +24,7 @@ fn count_wait(counts: &mut [u16], last: Last)
         Last::Split(_, _) => {}
         Last::Close => {}
         Last::Wait(r) => {
-            add_one(counts, wide(r.0));
+            add_one(counts, usize::from(r.0));
         }
     }
 }

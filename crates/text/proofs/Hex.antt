@@ -32,10 +32,10 @@ pub hex_more : (m : List ℕ) (at : ℕ) (bytes : List ℕ) (i : ℕ) {m₁ m₂
     → m₂ ≡ put_at m at (flat hex_byte (take (i + 1) bytes))
 hex_more m at bytes i h p e = e ∙ rw p (put_more hex_byte 2 length_byte m at bytes i 0 h)
 
-pub hex_written : {m m' : List ℕ} (at : ℕ) (bytes : List ℕ) (i : ℕ) → i ≤ length bytes → length bytes ≤ i
-    → m' ≡ put_at m at (flat hex_byte (take i bytes)) → Written m at (hex_text bytes) m' (at + 2 * i)
+pub hex_written : {m m' : List ℕ} (at : ℕ) (bytes : List ℕ) (i : ℕ) → length bytes ≤ i
+    → m' ≡ put_at m at (flat hex_byte (take i bytes)) → Written m at (hex_text bytes) m' (at + 2 * length bytes)
 unfolding hex_text
-hex_written {m} {m'} at bytes i l h e = record {
+hex_written {m} {m'} at bytes i h e = record {
   memory = e ∙ rw (take_all i bytes h);
   place = let s = length_flat hex_byte 2 length_byte bytes in omega arith;
 }
@@ -104,8 +104,8 @@ bytes_more m at word i b {m₁} {m₂} h p d e =
     let same : b ≡ get_or (hex_bytes word) i 0 = d ∙ sym (byte_at word i h) in
     e ∙ rw (p, same) (put_next m at (hex_bytes word) i l)
 
-pub bytes_written : {m m' : List ℕ} (at : ℕ) (word : List ℕ) (i : ℕ) → i ≤ length word / 2 → length word / 2 ≤ i
-    → m' ≡ put_at m at (take i (hex_bytes word)) → Written m at (hex_bytes word) m' (at + i)
-bytes_written {m} {m'} at word i l h e =
+pub bytes_written : {m m' : List ℕ} (at : ℕ) (word : List ℕ) (i : ℕ) → length word / 2 ≤ i
+    → m' ≡ put_at m at (take i (hex_bytes word)) → Written m at (hex_bytes word) m' (at + length word / 2)
+bytes_written {m} {m'} at word i h e =
     let n = length_bytes word in
     record { memory = e ∙ rw (take_all i (hex_bytes word) (omega arith)); place = omega arith }

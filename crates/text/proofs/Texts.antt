@@ -1,5 +1,5 @@
--- Laws of printing: one text behind another, a text by another name, room for a text, and a signed number by its bits. Assumes nothing.
-use mathlib.Core.Path.{◌≡◌, refl, sym, ap, ◌∙◌}
+-- Laws of printing: one text behind another, a text by another name, room for a text, and a signed number. Assumes nothing.
+use mathlib.Core.Path.{◌≡◌, sym, ap, ◌∙◌}
 use mathlib.Core.List.{List, [], ◌∷◌, ◌++◌}
 use mathlib.Core.Bool.{true, false}
 use Prim.Native.Nat.{ℕ, zero, suc, ◌+◌, ◌-◌, ◌≤◌}
@@ -8,10 +8,8 @@ use native.Mathlib.Omega.{arith}
 use borrow.Author.Tests.{ltb-true}
 use lib.ListN.{length, take, drop, length-append, length-drop}
 use lib.Seq.{take_all, drop-nil}
-use lib.IntN.{ℤ, pos, negsuc}
+use lib.IntN.{ℤ, pos, negsuc, nat_abs}
 use lib.Signed.{lt_z}
-use mir.Syntax.{w32}
-use mir.Val.{of_z, SFits}
 use Rattle.rules.specs.Text.{text, decimal, signed_decimal}
 use Rattle.words.specs.Parts.{put_at}
 use Rattle.words.proofs.Parts.{length_put, put_append}
@@ -54,21 +52,20 @@ drop_all (x ∷ l) (suc n) h = drop_all l n (le_of_suc-le-suc h)
 pub part_all : (l : List ℕ) (n from : ℕ) → length l ≡ n → take (n - from) (drop from l) ≡ drop from l
 part_all l n from e = take_all (n - from) (drop from l) (simp length-drop (omega arith))
 
--- a sign in front
-pub sign_text : text "-" ≡ 45 ∷ []
-unfolding text
-sign_text = refl
+-- a negative number has its sign in front of its size, any other is its size. `read` is the number that the code tests
+module _ (n : ℤ) {read : ℤ} {size : ℕ} (same : read ≡ n) (is : size ≡ nat_abs read) where
+  pub minus_text : lt_z read (pos 0) ≡ true → 45 ∷ decimal size ≡ signed_decimal n
+  unfolding signed_decimal text
+  minus_text t = go n (rw same at t) (is ∙ ap nat_abs same)
+    where
+      go : (n : ℤ) → lt_z n (pos 0) ≡ true → size ≡ nat_abs n → 45 ∷ decimal size ≡ signed_decimal n
+      go (pos k) t e = absurd (omega (arith, ltb-true k 0 t))
+      go (negsuc k) t e = ap (λ (m : ℕ). 45 ∷ decimal m) e
 
--- a negative number has its sign in front, any other is its bits
-pub minus_text : (n : ℤ) (bits : ℕ) → SFits w32 n → lt_z n (pos 0) ≡ true → bits ≡ of_z w32 n
-    → text "-" ++ decimal (4294967296 - bits) ≡ signed_decimal n
-unfolding signed_decimal
-minus_text (pos n) bits f t e = absurd (omega (arith, ltb-true n 0 t))
-minus_text (negsuc n) bits f t e =
-    let small = f.sfits in
-    ap (λ (k : ℕ). text "-" ++ decimal k) (omega arith)
-
-pub plus_text : (n : ℤ) (bits : ℕ) → lt_z n (pos 0) ≡ false → bits ≡ of_z w32 n → decimal bits ≡ signed_decimal n
-unfolding signed_decimal
-plus_text (pos n) bits t e = ap decimal e
-plus_text (negsuc n) bits t e = absurd (let z : ◌≡◌ {A = ℕ} 0 1 = cc in omega arith)
+  pub plus_text : lt_z read (pos 0) ≡ false → decimal size ≡ signed_decimal n
+  unfolding signed_decimal
+  plus_text t = go n (rw same at t) (is ∙ ap nat_abs same)
+    where
+      go : (n : ℤ) → lt_z n (pos 0) ≡ false → size ≡ nat_abs n → decimal size ≡ signed_decimal n
+      go (pos k) t e = ap decimal e
+      go (negsuc k) t e = absurd (let z : ◌≡◌ {A = ℕ} 0 1 = cc in omega arith)

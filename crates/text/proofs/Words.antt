@@ -1,58 +1,90 @@
--- Laws of reading a word from the front: where it ends, whether all are digits, the number that they say. Each says what one byte more
--- does to what stands behind the first i. Assumes nothing.
+-- Laws of reading a word from the front: where it ends, whether all are digits, the number that they say. Assumes nothing.
 use mathlib.Core.Path.{◌≡◌, refl, sym, ap, ◌∙◌}
 use mathlib.Core.List.{List, [], ◌∷◌}
-use mathlib.Core.Bool.{Bool, true, false}
+use mathlib.Core.Bool.{Bool, true, false, cond, ◌&&◌}
 use mathlib.Core.Option.{none, some}
-use Prim.Native.Nat.{ℕ, suc, ◌+◌, ◌*◌, ◌≤◌, ◌<◌}
+use mathlib.Core.Logic.{inl, inr}
+use Prim.Native.Nat.{ℕ, suc, ◌+◌, ◌-◌, ◌*◌, ◌≤◌, ◌<◌}
 use native.Mathlib.Numerals.{add-one}
 use native.Mathlib.Omega.{arith}
-use borrow.Author.Tests.{eq-eqb, ne_eqb, lt-ltb, le-ltb, le-leb, lt-leb}
+use borrow.Author.Tests.{eq-eqb, eqb-true, lt-ltb, le-ltb, le-leb, lt-leb}
 use lib.ListN.{length, get_or, drop}
 use lib.Seq.{drop-cons}
-use lib.Dec.{leb, eqb}
-use Rattle.rules.specs.Calls.{same_bytes}
-use Rattle.text.specs.Digits.{length_before, digit_value, all_digits, value_behind, only_if, number_in}
+use lib.Dec.{leb, ltb, eqb}
+use Rattle.std.specs.Prelude.{Some, None}
+use Rattle.std.specs.Option.{unwrap_or}
+use Rattle.std.specs.List.{list_all, position_or_len}
+use Rattle.std.proofs.lemmas.List.Recursion.{is_position_or_len}
+use Rattle.std.proofs.lemmas.Bool.{cases_lt}
+use Rattle.text.specs.Written.{pick}
+use Rattle.text.specs.Digits.{both, length_before, digit_value, all_digits, value_behind, only_if, number_in}
 use Rattle.text.proofs.Texts.{drop_all}
 
 -- ---- the end of a word
 
-pub before_found : (stop : ℕ) (text : List ℕ) (i : ℕ) → i < length text → length_before stop text ≡ i + length_before stop (drop i text)
-    → get_or text i 0 ≡ stop → i ≡ length_before stop text
-unfolding length_before
-before_found stop text i h e s =
-    let q = rw (drop-cons text i 0 h, eq-eqb (get_or text i 0) stop s) at e in omega arith
+pick_is : (t : Bool) (x y : ℕ) → pick t x y ≡ cond t x y
+pick_is true x y = refl
+pick_is false x y = refl
 
-pub before_passed : (stop : ℕ) (text : List ℕ) (i : ℕ) → i < length text → length_before stop text ≡ i + length_before stop (drop i text)
-    → (get_or text i 0 ≡ stop → ⊥) → length_before stop text ≡ i + 1 + length_before stop (drop (i + 1) text)
+-- what stands in front of the first `stop` is as long as std's `position` says, and all where there is none
+pub before_is : (stop : ℕ) (text : List ℕ) → length_before stop text ≡ position_or_len (λ (b : ℕ). eqb b stop) text
 unfolding length_before
-before_passed stop text i h e n =
-    let q = rw (drop-cons text i 0 h, ne_eqb (get_or text i 0) stop n) at e in
-    rw add-one (omega arith)
+before_is stop =
+    is_position_or_len (length_before stop) (λ (b : ℕ). eqb b stop) refl
+    (λ b rest. pick_is (eqb b stop) 0 (suc (length_before stop rest)) ∙ ap (cond (eqb b stop) 0) (omega arith))
 
-pub before_none : (stop : ℕ) (text : List ℕ) (i : ℕ) → length text ≤ i → length_before stop text ≡ i + length_before stop (drop i text)
-    → i ≡ length_before stop text
-unfolding length_before
-before_none stop text i h e = let q = rw (drop_all text i h) at e in omega arith
+pub place_or_length : (p l : ℕ) → p ≤ l → unwrap_or (cond (ltb p l) (Some p) None) l ≡ p
+place_or_length p l h = elim (cases_lt p l) [ inl k ↦ rw (lt-ltb p l k) refl | inr k ↦ rw (le-ltb p l k) (omega arith) ]
 
 -- ---- digits
 
-pub digits_wrong : (base : ℕ) (word : List ℕ) (i : ℕ) → i < length word → all_digits base word ≡ all_digits base (drop i word)
-    → base ≤ digit_value (get_or word i 0) → false ≡ all_digits base word
-unfolding all_digits
-digits_wrong base word i h e w =
-    sym (e ∙ rw (drop-cons word i 0 h, le-ltb (digit_value (get_or word i 0)) base w))
+module _ (b : ℕ) where
+  pub digit_decimal : 48 ≤ b → b < 58 → b - 48 ≡ digit_value b
+  unfolding digit_value
+  digit_decimal h k = rw (le-ltb b 48 h, lt-ltb b 58 k)
 
-pub digits_passed : (base : ℕ) (word : List ℕ) (i : ℕ) → i < length word → all_digits base word ≡ all_digits base (drop i word)
-    → digit_value (get_or word i 0) < base → all_digits base word ≡ all_digits base (drop (i + 1) word)
-unfolding all_digits
-digits_passed base word i h e w =
-    e ∙ rw (add-one, drop-cons word i 0 h, lt-ltb (digit_value (get_or word i 0)) base w)
+  pub digit_upper : 65 ≤ b → b < 71 → 10 + (b - 65) ≡ digit_value b
+  unfolding digit_value
+  digit_upper h k = rw (le-ltb b 48 (omega arith), le-ltb b 58 (omega arith), le-ltb b 65 h, lt-ltb b 71 k) (omega arith)
 
-pub digits_right : (base : ℕ) (word : List ℕ) (i : ℕ) → length word ≤ i → all_digits base word ≡ all_digits base (drop i word)
-    → true ≡ all_digits base word
+  pub digit_lower : 97 ≤ b → b < 103 → 10 + (b - 97) ≡ digit_value b
+  unfolding digit_value
+  digit_lower h k =
+      rw (le-ltb b 48 (omega arith), le-ltb b 58 (omega arith), le-ltb b 65 (omega arith), le-ltb b 71 (omega arith), le-ltb b 97 h)
+      (rw (lt-ltb b 103 k) (omega arith))
+
+  -- no digit: in front of the decimal ones, between, and behind all
+  pub digit_before : b < 48 → 16 ≡ digit_value b
+  unfolding digit_value
+  digit_before h = rw (lt-ltb b 48 h)
+
+  pub digit_between : 58 ≤ b → b < 65 → 16 ≡ digit_value b
+  unfolding digit_value
+  digit_between h k = rw (le-ltb b 48 (omega arith), le-ltb b 58 h, lt-ltb b 65 k)
+
+  pub digit_between_cases : 71 ≤ b → b < 97 → 16 ≡ digit_value b
+  unfolding digit_value
+  digit_between_cases h k =
+      rw (le-ltb b 48 (omega arith), le-ltb b 58 (omega arith), le-ltb b 65 (omega arith), le-ltb b 71 h, lt-ltb b 97 k)
+
+  pub digit_behind : 103 ≤ b → 16 ≡ digit_value b
+  unfolding digit_value
+  digit_behind h =
+      rw (le-ltb b 48 (omega arith), le-ltb b 58 (omega arith), le-ltb b 65 (omega arith), le-ltb b 71 (omega arith), le-ltb b 97 (omega arith))
+      (rw (le-ltb b 103 h))
+
+-- the arms of the code that reads a digit
+pub ruleset digit_arms = (digit_decimal, digit_upper, digit_lower, digit_before, digit_between, digit_between_cases, digit_behind)
+
+both_is : (a b : Bool) → both a b ≡ (a && b)
+both_is true b = refl
+both_is false b = refl
+
+-- the test of all digits is std's `all`
+pub digits_are : (base : ℕ) (word : List ℕ) → all_digits base word ≡ list_all (λ (b : ℕ). ltb (digit_value b) base) word
 unfolding all_digits
-digits_right base word i h e = sym (e ∙ rw (drop_all word i h))
+digits_are base [] = refl
+digits_are base (b ∷ word) = rw (digits_are base word) (both_is (ltb (digit_value b) base) _)
 
 -- ---- the number that digits say
 
@@ -96,42 +128,10 @@ pub number_is : (limit : ℕ) (word : List ℕ) → (length word ≡ 0 → ⊥) 
 unfolding number_in
 number_is limit word e d = rw (lt-ltb 0 (length word) (omega arith), d) refl
 
--- ---- two words
+-- ---- no word
 
--- by their first bytes
-same_first : (x y : ℕ) (a b : List ℕ) → eqb x y ≡ true → same_bytes (x ∷ a) (y ∷ b) ≡ same_bytes a b
-unfolding same_bytes
-same_first x y a b e = rw (e, same_bytes) refl
+pub none_there : (word : List ℕ) {empty : Bool} → empty ≡ eqb (length word) 0 → empty ≡ true → length word ≡ 0
+none_there word e t = eqb-true (length word) 0 (sym e ∙ t)
 
-other_first : (x y : ℕ) (a b : List ℕ) → eqb x y ≡ false → same_bytes (x ∷ a) (y ∷ b) ≡ false
-unfolding same_bytes
-other_first x y a b e = rw (e, same_bytes) refl
-
--- words of different lengths are not the same
-pub same_shorter : (a b : List ℕ) → (length a ≡ length b → ⊥) → false ≡ same_bytes a b
-unfolding same_bytes
-same_shorter [] [] n = absurd (n refl)
-same_shorter [] (y ∷ b) n = refl
-same_shorter (x ∷ a) [] n = refl
-same_shorter (x ∷ a) (y ∷ b) n = go (eqb x y) (same_shorter a b (λ e. n (ap suc e)))
-  where
-    go : (t : Bool) → false ≡ same_bytes a b → false ≡ elim t [ true ↦ same_bytes a b | false ↦ false ]
-    go true h = h
-    go false h = refl
-
-pub same_passed : (a b : List ℕ) (i : ℕ) → i < length a → i < length b → same_bytes a b ≡ same_bytes (drop i a) (drop i b)
-    → get_or a i 0 ≡ get_or b i 0 → same_bytes a b ≡ same_bytes (drop (i + 1) a) (drop (i + 1) b)
-same_passed a b i h k e s =
-    e ∙ rw (add-one, drop-cons a i 0 h, drop-cons b i 0 k) (same_first (get_or a i 0) (get_or b i 0) _ _
-    (eq-eqb (get_or a i 0) (get_or b i 0) s))
-
-pub same_other : (a b : List ℕ) (i : ℕ) → i < length a → i < length b → same_bytes a b ≡ same_bytes (drop i a) (drop i b)
-    → (get_or a i 0 ≡ get_or b i 0 → ⊥) → false ≡ same_bytes a b
-same_other a b i h k e s =
-    sym (e ∙ rw (drop-cons a i 0 h, drop-cons b i 0 k) (other_first (get_or a i 0) (get_or b i 0) _ _
-    (ne_eqb (get_or a i 0) (get_or b i 0) s)))
-
-pub same_all : (a b : List ℕ) (i : ℕ) → length a ≤ i → length b ≤ i → same_bytes a b ≡ same_bytes (drop i a) (drop i b)
-    → true ≡ same_bytes a b
-unfolding same_bytes
-same_all a b i h k e = sym (e ∙ rw (drop_all a i h, drop_all b i k))
+pub some_there : (word : List ℕ) {empty : Bool} → empty ≡ eqb (length word) 0 → empty ≡ false → length word ≡ 0 → ⊥
+some_there word e f z = absurd (let n : ◌≡◌ {A = ℕ} 0 1 = cc (eq-eqb (length word) 0 z) in omega arith)

@@ -7,4 +7,4 @@ mod printing;
 mod reading;
 
 pub use printing::{put_bytes, put_decimal, put_hex, put_letter, put_lettered, put_signed};
-pub use reading::{Number, is_hex, length_before, read_hex, read_number, same};
+pub use reading::{is_hex, length_before, read_hex, read_number};

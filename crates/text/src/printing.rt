@@ -73,11 +73,11 @@ pub fn put_signed(out: &mut [u8], at: usize, n: i32) -> usize
     requires { at + length (signed_decimal n) ≤ length out.old }
     ensures { Written out.old at (signed_decimal n) out.new result }
 {
-    let bits = words::bits(n) as u64;
+    let magnitude = u64::from(n.unsigned_abs());
     if n < 0 {
-        return put_lettered(out, at, b'-', 4294967296 - bits);
+        return put_lettered(out, at, b'-', magnitude);
     }
-    put_decimal(out, at, bits)
+    put_decimal(out, at, magnitude)
 }
 
 // A hex digit.
@@ -96,8 +96,8 @@ fn put_byte(out: &mut [u8], at: usize, b: u8)
     requires { at + 2 ≤ length out.old }
     ensures { out.new ≡ put_at out.old at (hex_byte b) }
 {
-    words::put8(out, at, hex_digit(b / 16));
-    words::put8(out, at + 1, hex_digit(b % 16));
+    out[at] = hex_digit(b / 16);
+    out[at + 1] = hex_digit(b % 16);
 }
 
 // Bytes in hex, in lower case.
@@ -105,10 +105,8 @@ pub fn put_hex(out: &mut [u8], at: usize, bytes: &[u8]) -> usize
     requires { at + 2 * length bytes.now ≤ length out.old }
     ensures { Written out.old at (hex_text bytes.now) out.new result }
 {
-    let mut i = 0;
-    while i < bytes.len() {
-        put_byte(out, at + 2 * i, bytes[i]);
-        i += 1;
+    for (i, b) in bytes.iter().enumerate() {
+        put_byte(out, at + 2 * i, *b);
     }
-    at + 2 * i
+    at + 2 * bytes.len()
 }

@@ -1,62 +1,28 @@
--- Laws of numbers in bytes, each over the width: a number is its low and its high part, what was written is read, and what was read and
--- is written gives the same bytes. Assumes nothing.
-use mathlib.Core.Path.{◌≡◌, refl, sym, ap, ◌∙◌}
+-- Laws of numbers in bytes, each over the width: what was written is read, and what was read and is written gives the same bytes.
+-- Assumes nothing.
+use mathlib.Core.Path.{◌≡◌, refl, ap, ◌∙◌}
 use mathlib.Core.List.{List, [], ◌∷◌, ◌++◌}
 use Prim.Native.Nat.{ℕ, zero, suc, ◌+◌, ◌*◌, ◌/◌, ◌%◌, ◌^◌, ◌≤◌, ◌<◌}
-use native.Mathlib.Nat.{add-zero, zero-add, add_assoc, suc-add, pow-suc, pow-succ', one-le-pow, mod-lt, mod-add-div, div-lt_iff_lt-mul}
+use native.Mathlib.Nat.{add_assoc, pow-suc, div-lt_iff_lt-mul}
 use native.Mathlib.Omega.{arith}
 use lib.ListN.{length, get_or, set, take, drop}
 use lib.Seq.{get_or-take, get_or-drop, get_or-append-add, drop-cons, length-take-le}
 use Rattle.rules.specs.Bytes.{number_at, bytes_of}
 use Rattle.words.specs.Parts.{put_at, Bytes}
-use Rattle.words.proofs.Parts.{put_append, put_split}
+use Rattle.words.proofs.Parts.{put_split}
 
 pub length_bytes : (k n : ℕ) → length (bytes_of k n) ≡ k
 length_bytes zero n = refl
 length_bytes (suc k) n = ap suc (length_bytes k (n / 256))
-
--- ---- low and high part
-
--- j bytes, and k behind them
-pub number_split : (j k : ℕ) (m : List ℕ) (at : ℕ) → number_at (j + k) m at ≡ number_at j m at + 256 ^ j * number_at k m (at + j)
-number_split zero k m at = rw (zero-add k, add-zero at) (omega arith)
-number_split (suc j) k m at =
-    let e : at + 1 + j ≡ at + suc j = omega arith in
-    let p : 256 ^ suc j ≡ 256 * 256 ^ j = pow-succ' 256 j in
-    rw (suc-add j k, number_split j k m (at + 1), e, p) (omega arith)
-
-below : (j low : ℕ) → low < 256 ^ suc j → low / 256 < 256 ^ j
-below j low h = let pos : 0 < 256 = omega arith in (div-lt_iff_lt-mul pos).1 (rw pow-suc at h)
-
--- the bytes of the low part, then those of the high part
-pub bytes_split : (j k n low high : ℕ) → n ≡ low + 256 ^ j * high → low < 256 ^ j → bytes_of (j + k) n ≡ bytes_of j low ++ bytes_of k high
-bytes_split zero k n low high e h = rw (zero-add k) (ap (λ (x : ℕ). bytes_of k x) (omega arith))
-bytes_split (suc j) k n low high e h =
-    let s : n ≡ low + 256 * 256 ^ j * high = rw (pow-succ' 256 j) at e in
-    let q : n / 256 ≡ low / 256 + 256 ^ j * high = omega arith in
-    let r : n % 256 ≡ low % 256 = omega arith in
-    rw (suc-add j k, r) (ap (λ (x : List ℕ). low % 256 ∷ x) (bytes_split j k (n / 256) (low / 256) high q (below j low h)))
-
--- a number read as two halves
-pub number_halves : (k : ℕ) (m : List ℕ) (at : ℕ) {low high : ℕ} → low ≡ number_at k m at → high ≡ number_at k m (at + k)
-    → low + 256 ^ k * high ≡ number_at (k + k) m at
-number_halves k m at p q = rw (p, q) (sym (number_split k k m at))
-
--- a number written as two halves
-pub put_halves : (k : ℕ) (m : List ℕ) (at n : ℕ) {m₁ m₂ : List ℕ} → m₁ ≡ put_at m at (bytes_of k (n % 256 ^ k))
-    → m₂ ≡ put_at m₁ (at + k) (bytes_of k (n / 256 ^ k)) → m₂ ≡ put_at m at (bytes_of (k + k) n)
-put_halves k m at n e₁ e₂ =
-    let low = n % 256 ^ k in
-    let high = n / 256 ^ k in
-    let pos : 0 < 256 ^ k = one-le-pow k 256 (omega arith) in
-    let s : n ≡ low + 256 ^ k * high = sym (mod-add-div n (256 ^ k)) in
-    e₂ ∙ rw (e₁, bytes_split k k n low high s (mod-lt n pos), put_append m at (bytes_of k low) (bytes_of k high), length_bytes k low)
 
 -- one byte
 pub put_byte : (m : List ℕ) (at b : ℕ) → b < 256 → set m at b ≡ put_at m at (bytes_of 1 b)
 put_byte m at b h = ap (λ (x : ℕ). set m at x) (omega arith)
 
 -- ---- reading
+
+below : (j low : ℕ) → low < 256 ^ suc j → low / 256 < 256 ^ j
+below j low h = let pos : 0 < 256 = omega arith in (div-lt_iff_lt-mul pos).1 (rw pow-suc at h)
 
 -- a number past a part
 pub number_skip : (k : ℕ) (x m : List ℕ) (o : ℕ) → number_at k (x ++ m) (length x + o) ≡ number_at k m o

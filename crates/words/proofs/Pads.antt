@@ -1,14 +1,14 @@
 -- Laws of `pad`, a list in a fixed length with one element behind it. Assumes nothing.
-use mathlib.Core.Path.{◌≡◌, refl, ap, ◌∙◌}
-use mathlib.Core.List.{List, [], ◌∷◌}
+use mathlib.Core.Path.{◌≡◌, refl, sym, ap, ◌∙◌}
+use mathlib.Core.List.{List, [], ◌∷◌, ◌++◌}
 use Prim.Native.Nat.{ℕ, zero, suc, ◌+◌, ◌≤◌, ◌<◌}
 use native.Mathlib.Nat.{zero-add, suc-add, suc_inj, le_of_suc-le-suc}
 use native.Mathlib.Omega.{arith}
-use lib.ListN.{length, get_or, take, drop}
+use lib.ListN.{length, get_or, take, drop, replicate}
 use lib.Seq.{drop-nil}
 use Rattle.rules.specs.Bytes.{pad}
 use Rattle.words.specs.Parts.{put_at}
-use Rattle.words.proofs.Parts.{put_skip}
+use Rattle.words.proofs.Parts.{put_skip, put_front}
 
 module _ {A : Type 0} where
   pub length_pad : (n : ℕ) (z : A) (xs : List A) → length (pad n z xs) ≡ n
@@ -34,6 +34,12 @@ module _ {A : Type 0} where
   pad_all P (suc n) z [] pz h (suc j) = pad_all P n z [] pz (λ k. pz) j
   pad_all P (suc n) z (x ∷ xs) pz h zero = h 0
   pad_all P (suc n) z (x ∷ xs) pz h (suc j) = pad_all P n z xs pz (λ k. h (suc k)) j
+
+  -- nothing, padded, is the element n times
+  pub replicated : (n : ℕ) (z : A) → replicate n z ≡ pad n z []
+  unfolding pad
+  replicated zero z = refl
+  replicated (suc n) z = ap (λ (r : List A). z ∷ r) (replicated n z)
 
   -- a list of that length is itself
   pub pad_same : (n : ℕ) (z : A) (xs : List A) → length xs ≡ n → pad n z xs ≡ xs
@@ -63,3 +69,12 @@ put_pad n [] h = refl
 put_pad zero (x ∷ xs) h = absurd (omega arith)
 put_pad (suc n) (x ∷ xs) h =
     put_skip (x ∷ []) (pad n 0 []) 0 xs ∙ ap (λ (r : List ℕ). x ∷ r) (put_pad n xs (le_of_suc-le-suc h))
+
+-- zeros written at the front
+pub put_zeros : (m : List ℕ) (n : ℕ) {zeros : List ℕ} → n ≤ length m → zeros ≡ replicate n 0
+    → zeros ++ drop n m ≡ put_at m 0 (pad n 0 [])
+put_zeros m n h e =
+    let padded : List ℕ = pad n 0 [] in
+    let l : length padded ≡ n = length_pad {A = ℕ} n 0 [] in
+    let f : length padded ≤ length m = omega arith in
+    ap (λ (r : List ℕ). r ++ drop n m) (e ∙ replicated n 0) ∙ ap (λ (k : ℕ). padded ++ drop k m) (sym l) ∙ sym (put_front m padded f)

@@ -2,12 +2,13 @@
 -- written. Assumes nothing.
 use mathlib.Core.Path.{◌≡◌, refl, sym, ap, ◌∙◌}
 use mathlib.Core.List.{List, [], ◌∷◌, ◌++◌}
-use Prim.Native.Nat.{ℕ, suc, ◌+◌, ◌≤◌, ◌<◌}
+use Prim.Native.Nat.{ℕ, suc, ◌+◌, ◌-◌, ◌≤◌, ◌<◌}
 use native.Mathlib.Nat.{add-zero, zero-add, add_assoc, suc-add, suc_inj}
 use native.Mathlib.Numerals.{add-one}
 use native.Mathlib.Omega.{arith}
 use lib.ListN.{length, get_or, set, take, drop, length-set, length-drop, take-append-drop}
 use lib.Seq.{set-append_left, take-suc, length-take-le, drop-drop}
+use borrow.Rule.Slice.PartMut.{put_mid}
 use Rattle.words.specs.Parts.{put_at}
 
 pub length_put : (m : List ℕ) (at : ℕ) (bytes : List ℕ) → length (put_at m at bytes) ≡ length m
@@ -68,7 +69,14 @@ put_split m at bytes h =
     ∙ ap (λ (r : List ℕ). take at m ++ r) (put_front (drop at m) bytes l)
     ∙ ap (λ (r : List ℕ). take at m ++ (bytes ++ r)) (drop-drop (length bytes) at m)
 
--- a turn of the loop that copies: one byte behind the first i
+-- what a slice holds once its part from `at` on has been overwritten by as many bytes
+pub put_middle : (m : List ℕ) (at : ℕ) (bytes : List ℕ) {ys : List ℕ} → at + length bytes ≤ length m → ys ≡ bytes
+    → put_mid at (at + length bytes - at) m ys ≡ put_at m at bytes
+put_middle m at bytes h e =
+    let k : at + length bytes - at ≡ length bytes = omega arith in
+    rw (e, k, put_split m at bytes h, drop-drop)
+
+-- a turn of a loop that writes one byte after the other: one more behind the first i
 pub put_next : (m : List ℕ) (at : ℕ) (bytes : List ℕ) (i : ℕ) → i < length bytes
     → set (put_at m at (take i bytes)) (at + i) (get_or bytes i 0) ≡ put_at m at (take (i + 1) bytes)
 put_next m at bytes i h =

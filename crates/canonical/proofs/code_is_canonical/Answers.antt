@@ -10,12 +10,12 @@ pub returns-then-n-gt-CODE_LIMIT : goal.returns-then-n-gt-CODE_LIMIT
 unfolding canonical_code
 returns-then-n-gt-CODE_LIMIT c =
     let m = c.args.m.now in
-    sym (rw (lt-leb (code_length m) code_limit (rw c.get16-n.ensures at c.if-n-gt-CODE_LIMIT.true)))
+    sym (rw (lt-leb (code_length m) code_limit (rw (c.from-n.ensures ∙ c.get16.ensures) at c.if-n-gt-CODE_LIMIT.true)))
 
 pub returns : goal.returns
 unfolding canonical_code
 returns c =
     let m = c.args.m.now in
-    let n = c.get16-n.ensures in
+    let n = c.from-n.ensures ∙ c.get16.ensures in
     c.all_zero.ensures ∙ ap (λ (k : ℕ). all_zero (part (2 + k) records_at m)) n
     ∙ sym (rw (le-leb (code_length m) code_limit (rw n at c.if-n-gt-CODE_LIMIT.false)))

@@ -21,7 +21,7 @@ tested m e w f t =
     t ∙ (λ i. canonical_end (bit i) (get_or m (partners_at + e) 0) (get_or m (counts_at + e) 0) (bytes i))
 
 pub loop-e-init : goal.loop-e-init
-loop-e-init c = (omega arith, every_none (end_test c.args.m.now))
+loop-e-init c = every_none (end_test c.args.m.now)
 
 pub returns-then-not-end_is_canonical : goal.returns-then-not-end_is_canonical
 returns-then-not-end_is_canonical c =
@@ -35,4 +35,4 @@ loop-e-preserved c =
     let m = c.args.m.now in
     let e = c.loop-e.e in
     let answer = tested m e c.get64-word.ensures c.is_free.ensures c.end_is_canonical.ensures in
-    (omega arith, turn_passes (end_test m) e answer c.loop-e.invariant.1 (ap not c.if-not-end_is_canonical.false))
+    turn_passes (end_test m) e answer c.loop-e.invariant (ap not c.if-not-end_is_canonical.false)

@@ -14,7 +14,7 @@ unfolding record_test
 tested m i e = e ∙ ap canonical_record (part_is (records_at + record_size * i) record_size m)
 
 pub loop-i-init : goal.loop-i-init
-loop-i-init c = (omega arith, every_none (record_test c.args.m.now))
+loop-i-init c = every_none (record_test c.args.m.now)
 
 pub returns-then-not-record_is_canonical : goal.returns-then-not-record_is_canonical
 returns-then-not-record_is_canonical c =
@@ -28,4 +28,4 @@ loop-i-preserved c =
     let m = c.args.m.now in
     let i = c.loop-i.i in
     let answer = tested m i c.record_is_canonical.ensures in
-    (omega arith, turn_passes (record_test m) i answer c.loop-i.invariant.1 (ap not c.if-not-record_is_canonical.false))
+    turn_passes (record_test m) i answer c.loop-i.invariant (ap not c.if-not-record_is_canonical.false)

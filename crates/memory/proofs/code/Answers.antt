@@ -7,5 +7,5 @@ pub returns : goal.returns
 unfolding view
 returns c =
     let m = c.args.m.now in
-    let same : 2 + c.get16-size.result - 2 ≡ c.get16-size.result = omega arith in
-    ap (λ (k : ℕ). take k (drop 2 m)) (same ∙ c.get16-size.ensures)
+    let same : 2 + c.from-size.result - 2 ≡ c.get16.result = omega arith in
+    ap (λ (k : ℕ). take k (drop 2 m)) (same ∙ c.get16.ensures)

@@ -18,10 +18,10 @@ next_cell m₀ cells k h p e =
 
 pub loop-k-init : goal.loop-k-init
 unfolding flat
-loop-k-init c = (omega arith, refl, refl)
+loop-k-init c = (refl, refl)
 
 pub loop-k-preserved : goal.loop-k-preserved
 loop-k-preserved c =
     let a = c.args in
     let l = c.loop-k in
-    (omega arith, omega arith, next_cell a.m.now a.cells.now l.k (omega arith) l.invariant.2 c.put64.ensures)
+    (omega arith, next_cell a.m.now a.cells.now l.k (omega arith) l.invariant.1 c.put64.ensures)

@@ -1,14 +1,10 @@
 -- `put_cells` stores the cells one after the other. The invariant: the first k are written. Assumes nothing.
-use Rattle.std.proofs.Common.{◌≡◌, ◌-◌, ◌≤◌, length, take}
+use Rattle.std.proofs.Common.{◌≡◌, length, take}
 use Rattle.rules.specs.Bytes.{bytes_of, flat}
 use Rattle.rules.specs.Layout.{cell_size, queues_at}
-use Rattle.memory.specs.Sections.{cell_count}
 use Rattle.words.specs.Parts.{put_at}
 use Rattle.memory.proofs.put_cells.Given as goal
 
 abbrev pub invariant-loop-k : goal.invariant-loop-k
-invariant-loop-k l = (l.k ≤ cell_count) × (length l.m ≡ length l.initial.m)
+invariant-loop-k l = (length l.m ≡ length l.initial.m)
     × (l.m ≡ put_at l.initial.m queues_at (flat (bytes_of cell_size) (take l.k l.cells)))
-
-abbrev pub decreases-loop-k : goal.decreases-loop-k
-decreases-loop-k l = cell_count - l.k

@@ -8,7 +8,7 @@ returns-then-i-count c =
     let a = c.args in
     let i = c.loop-i.i in
     let other = sym c.is_datum.ensures ∙ c.if-not-is_datum.true in
-    sym (c.loop-i.invariant.1
+    sym (c.loop-i.invariant
     ∙ turn_stop a.queue.now a.count c.requires.1 i (omega arith) c.get64-cell.ensures
     other c.if-i-count.true)
 
@@ -18,7 +18,7 @@ returns-then-not-is_datum c =
     let i = c.loop-i.i in
     let other = sym c.is_datum.ensures ∙ c.if-not-is_datum.true in
     c.is_last.ensures
-    ∙ sym (c.loop-i.invariant.1
+    ∙ sym (c.loop-i.invariant
     ∙ turn_end a.queue.now a.count c.requires.1 i (omega arith) c.get64-cell.ensures
     other c.if-i-count.false)
 
@@ -26,13 +26,10 @@ pub loop-i-preserved : goal.loop-i-preserved
 loop-i-preserved c =
     let a = c.args in
     let i = c.loop-i.i in
-    let datum = sym c.is_datum.ensures ∙ c.if-not-is_datum.false in (
-      omega arith,
-      c.loop-i.invariant.1
-          ∙ turn_go a.queue.now a.count c.requires.1 i (omega arith) c.get64-cell.ensures datum,
-    )
+    let datum = sym c.is_datum.ensures ∙ c.if-not-is_datum.false in
+    c.loop-i.invariant ∙ turn_go a.queue.now a.count c.requires.1 i (omega arith) c.get64-cell.ensures datum
 
 pub returns : goal.returns
 returns c =
     let a = c.args in
-    sym (c.loop-i.invariant.1 ∙ cells_all a.queue.now a.count c.requires.1 c.loop-i.i (omega arith))
+    sym (c.loop-i.invariant ∙ cells_all a.queue.now a.count c.requires.1 c.loop-i.i (omega arith))

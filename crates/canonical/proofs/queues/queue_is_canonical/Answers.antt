@@ -15,13 +15,13 @@ pub returns-then-items-gt-QUEUE_DEPTH : goal.returns-then-items-gt-QUEUE_DEPTH
 unfolding canonical_queue
 returns-then-items-gt-QUEUE_DEPTH c =
     let k = c.args.count in
-    sym (false_at _ 0 (lt-leb k queue_depth (rw c.wide-items.ensures at c.if-items-gt-QUEUE_DEPTH.true)))
+    sym (false_at _ 0 (lt-leb k queue_depth (rw c.from-items.ensures at c.if-items-gt-QUEUE_DEPTH.true)))
 
 pub returns-then-not-cells_are_canonical : goal.returns-then-not-cells_are_canonical
 unfolding canonical_queue
 returns-then-not-cells_are_canonical c =
     let bytes = c.args.queue.now in
-    let tested = c.cells_are_canonical.ensures ∙ counted bytes c.wide-items.ensures in
+    let tested = c.cells_are_canonical.ensures ∙ counted bytes c.from-items.ensures in
     sym (false_at _ 1 (sym tested ∙ c.if-not-cells_are_canonical.true))
 
 pub returns : goal.returns
@@ -29,7 +29,7 @@ unfolding canonical_queue
 returns c =
     let a = c.args in
     let bytes = a.queue.now in
-    let n = c.wide-items.ensures in
+    let n = c.from-items.ensures in
     let few = le-leb a.count queue_depth (rw n at c.if-items-gt-QUEUE_DEPTH.false) in
     let cells = sym (c.cells_are_canonical.ensures ∙ counted bytes n)
     ∙ c.if-not-cells_are_canonical.false in

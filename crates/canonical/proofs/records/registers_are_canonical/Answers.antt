@@ -23,14 +23,14 @@ pub returns-then-stacked-gt-STACK_DEPTH : goal.returns-then-stacked-gt-STACK_DEP
 unfolding canonical_registers
 returns-then-stacked-gt-STACK_DEPTH c =
     let p = c.args.bytes.now in
-    let over = rw c.wide-stacked.ensures at c.if-stacked-gt-STACK_DEPTH.true in
+    let over = rw c.from-stacked.ensures at c.if-stacked-gt-STACK_DEPTH.true in
     sym (false_at _ 0 (lt-leb (get_or p 3 0) stack_depth over))
 
 pub returns-then-bound-gt-ENVIRONMENT_DEPTH : goal.returns-then-bound-gt-ENVIRONMENT_DEPTH
 unfolding canonical_registers
 returns-then-bound-gt-ENVIRONMENT_DEPTH c =
     let p = c.args.bytes.now in
-    let over = rw c.wide-bound.ensures at c.if-bound-gt-ENVIRONMENT_DEPTH.true in
+    let over = rw c.from-bound.ensures at c.if-bound-gt-ENVIRONMENT_DEPTH.true in
     sym (false_at _ 1 (lt-leb (get_or p 4 0) environment_depth over))
 
 pub returns-then-not-slots_fit : goal.returns-then-not-slots_fit
@@ -41,19 +41,19 @@ pub returns-then-not-all_zero : goal.returns-then-not-all_zero
 unfolding canonical_registers
 returns-then-not-all_zero c =
     let p = c.args.bytes.now in
-    let tested = c.all_zero.ensures ∙ stack_behind p c.wide-stacked.ensures in
+    let tested = c.all_zero.ensures ∙ stack_behind p c.from-stacked.ensures in
     sym (false_at _ 3 (sym tested ∙ c.if-not-all_zero.true))
 
 pub returns : goal.returns
 unfolding canonical_registers
 returns c =
     let p = c.args.bytes.now in
-    let few = le-leb (get_or p 3 0) stack_depth (rw c.wide-stacked.ensures at c.if-stacked-gt-STACK_DEPTH.false) in
-    let few_bound = le-leb (get_or p 4 0) environment_depth (rw c.wide-bound.ensures at c.if-bound-gt-ENVIRONMENT_DEPTH.false) in
+    let few = le-leb (get_or p 3 0) stack_depth (rw c.from-stacked.ensures at c.if-stacked-gt-STACK_DEPTH.false) in
+    let few_bound = le-leb (get_or p 4 0) environment_depth (rw c.from-bound.ensures at c.if-bound-gt-ENVIRONMENT_DEPTH.false) in
     let slots = sym c.slots_fit.ensures ∙ c.if-not-slots_fit.false in
-    let stack = sym (c.all_zero.ensures ∙ stack_behind p c.wide-stacked.ensures)
+    let stack = sym (c.all_zero.ensures ∙ stack_behind p c.from-stacked.ensures)
     ∙ c.if-not-all_zero.false in
-    c.all_zero-2.ensures ∙ environment_behind p c.wide-bound.ensures
+    c.all_zero-2.ensures ∙ environment_behind p c.from-bound.ensures
     ∙ sym (last_decides (leb (get_or p 3 0) stack_depth ∷ leb (get_or p 4 0) environment_depth ∷ all slot_fits
     (part slots_from stack_from p)
     ∷ all_zero (part (stack_from + value_size * get_or p 3 0) environment_from p) ∷ [])

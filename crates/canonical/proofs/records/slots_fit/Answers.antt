@@ -1,23 +1,13 @@
--- `slots_fit` looks at each slot. The invariant: the first c fit. Assumes nothing.
-use Rattle.std.proofs.Common.{sym, arith, get_or, le-leb}
-use borrow.Author.Tests.{lt-leb}
-use Rattle.rules.specs.Limits.{end_count}
+-- `slots_fit` is `all` of std. Assumes nothing.
+use Rattle.std.proofs.Common.{sym, ◌∙◌, rules, tests}
+use Rattle.std.proofs.lemmas.Iterator.{YieldsList-from_slice}
+use Rattle.std.proofs.lemmas.Iterator.Search.{all_from_yields_List}
 use Rattle.canonical.specs.Canonical.{slot_fits}
-use Rattle.canonical.proofs.Tests.{all_none, all_more_true, all_fails}
+use Rattle.canonical.proofs.Tests.{all_is}
 use Rattle.canonical.proofs.records.slots_fit.Goals as goal
 
-pub loop-c-init : goal.loop-c-init
-loop-c-init c = (omega arith, all_none slot_fits)
-
-pub returns-then-slots-c : goal.returns-then-slots-c
-returns-then-slots-c c =
-    let l = c.loop-c in
+pub returns : goal.returns
+returns c =
     let slots = c.args.slots.now in
-    sym (all_fails slot_fits slots l.c 0 (omega arith) (lt-leb (get_or slots l.c 0) end_count c.if-slots-c.true))
-
-pub loop-c-preserved : goal.loop-c-preserved
-loop-c-preserved c =
-    let l = c.loop-c in
-    let slots = c.args.slots.now in
-    let fits = le-leb (get_or slots l.c 0) end_count c.if-slots-c.false in
-    (omega arith, all_more_true slot_fits slots l.c 0 (omega arith) l.invariant.1 fits)
+    all_from_yields_List slot_fits _ _ _ c.all.ensures.ran (YieldsList-from_slice slots cc) (λ x b q k. search (rules, tests))
+    ∙ sym (all_is slot_fits slots)

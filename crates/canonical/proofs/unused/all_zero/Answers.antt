@@ -3,11 +3,11 @@ use Rattle.std.proofs.Common.{arith}
 use Rattle.canonical.proofs.Padding.{all_zero_none, all_zero_more}
 use Rattle.canonical.proofs.unused.all_zero.Goals as goal
 
-pub loop-i-init : goal.loop-i-init
-loop-i-init c = (omega arith, all_zero_none)
+pub loop-b-init : goal.loop-b-init
+loop-b-init c = all_zero_none
 
-pub loop-i-preserved : goal.loop-i-preserved
-loop-i-preserved c =
-    let l = c.loop-i in
+pub loop-b-preserved : goal.loop-b-preserved
+loop-b-preserved c =
+    let l = c.loop-b in
     let bytes = c.args.bytes.now in
-    (omega arith, all_zero_more l.any bytes l.i (omega arith) l.invariant.1)
+    all_zero_more l.any bytes l.b-index (omega arith) l.invariant

@@ -8,7 +8,7 @@ use Rattle.ends.proofs.item.item_in.Goals as goal
 pub returns-in-1 : goal.returns-in-1
 returns-in-1 c =
     let cell = c.args.cell in
-    ap (λ (v : ℤ). some (datum (value v))) (to_z-of_z {w = w32} {z = c.signed.result} (search rules) ∙ c.signed.ensures)
+    ap (λ (v : ℤ). some (datum (value v))) (to_z-of_z {w = w32} {z = c.cast_signed.result} (search rules) ∙ c.cast_signed.ensures)
     ∙ sym (cell_of_kind cell 1 c.in-1.is)
 
 pub returns-in-2 : goal.returns-in-2

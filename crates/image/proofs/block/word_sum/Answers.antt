@@ -10,12 +10,7 @@ loop-i-preserved c =
     let i = c.loop-i.i in
     let word = sum_next bytes (2 * i) (omega arith) in
     let e : 2 * i + 2 ≡ 2 * (i + 1) = omega arith in
-    (omega arith, omega arith, rw (← e) (omega arith))
+    (omega arith, rw (← e) (omega arith))
 
-pub returns : goal.returns
-returns c =
-    let none = sum_end c.args.bytes.now (2 * c.loop-i.i) (omega arith) in
-    record {
-      value = omega arith;
-      upper_bound = omega arith;
-    }
+pub returns-clause-value : goal.returns-clause-value
+returns-clause-value c = let none = sum_end c.args.bytes.now (2 * c.loop-i.i) (omega arith) in omega arith

@@ -1,11 +1,8 @@
 -- `word_sum` adds the words up from the front. The invariant: what is added up and the sum of the words left are the sum of all, and each
 -- word is at most 65,535. Assumes nothing.
-use Rattle.std.proofs.Common.{◌≡◌, ◌+◌, ◌*◌, ◌-◌, ◌≤◌, drop}
+use Rattle.std.proofs.Common.{◌≡◌, ◌+◌, ◌*◌, ◌≤◌, drop}
 use Rattle.rules.specs.Image.{word_sum}
 use Rattle.image.proofs.block.word_sum.Given as goal
 
 abbrev pub invariant-loop-i : goal.invariant-loop-i
-invariant-loop-i l = (l.i ≤ 255) × (l.sum ≤ 65535 * l.i) × (l.sum + word_sum (drop (2 * l.i) l.bytes) ≡ word_sum l.bytes)
-
-abbrev pub decreases-loop-i : goal.decreases-loop-i
-decreases-loop-i l = 255 - l.i
+invariant-loop-i l = (l.sum ≤ 65535 * l.i) × (l.sum + word_sum (drop (2 * l.i) l.bytes) ≡ word_sum l.bytes)

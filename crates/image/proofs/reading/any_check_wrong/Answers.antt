@@ -22,16 +22,16 @@ returns-then-not-right c =
     let n = a.count - (i + 1) in
     let m = drop (block_size * i) a.image.now in
     let wrong = checks_stop m n (sym (told (goal.at.returns-then-not-right c).After-right) ∙ c.if-not-right.true) in
-    sym (c.loop-i.invariant.1 (suc n) (omega arith) ∙ wrong)
+    sym (c.loop-i.invariant (suc n) (omega arith) ∙ wrong)
 
 pub loop-i-preserved : goal.loop-i-preserved
 loop-i-preserved c =
     let a = c.args in
     let i = c.loop-i.i in
     let e = sym (told (goal.at.loop-i-preserved c).After-right) ∙ c.if-not-right.false in
-    (omega arith, λ n s. c.loop-i.invariant.1 (suc n) (omega arith) ∙ checks_next a.image.now i n e)
+    λ n s. c.loop-i.invariant (suc n) (omega arith) ∙ checks_next a.image.now i n e
 
 pub returns : goal.returns
 returns c =
     let m = drop (block_size * c.loop-i.i) c.args.image.now in
-    sym (c.loop-i.invariant.1 0 (omega arith) ∙ checks_end m)
+    sym (c.loop-i.invariant 0 (omega arith) ∙ checks_end m)

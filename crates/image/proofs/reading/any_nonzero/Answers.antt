@@ -1,16 +1,13 @@
--- `any_nonzero` looks at the bytes from the front. The invariant: those before i are zero, so that another one is among those from i on.
--- Assumes nothing.
-use Rattle.std.proofs.Common.{sym, ◌∙◌, arith}
-use Rattle.image.proofs.Zeros.{zeros_next, zeros_stop, zeros_end}
+-- `any_nonzero` is `any` of std. Assumes nothing.
+use Rattle.std.proofs.Common.{sym, ◌∙◌, ℕ, eqb, not, rules, tests}
+use Rattle.std.proofs.lemmas.Iterator.{YieldsList-from_slice}
+use Rattle.std.proofs.lemmas.Iterator.Search.{any_from_yields_List}
+use Rattle.image.proofs.Zeros.{any_nonzero_is}
 use Rattle.image.proofs.reading.any_nonzero.Goals as goal
 
-pub returns-then-bytes-i-ne0 : goal.returns-then-bytes-i-ne0
-returns-then-bytes-i-ne0 c = sym (c.loop-i.invariant.1 ∙ zeros_stop c.args.bytes.now c.loop-i.i (omega arith) c.if-bytes-i-ne0.true)
-
-pub loop-i-preserved : goal.loop-i-preserved
-loop-i-preserved c =
-    let next = zeros_next c.args.bytes.now c.loop-i.i (omega arith) c.if-bytes-i-ne0.false in
-    (omega arith, c.loop-i.invariant.1 ∙ next)
-
 pub returns : goal.returns
-returns c = sym (c.loop-i.invariant.1 ∙ zeros_end c.args.bytes.now c.loop-i.i (omega arith))
+returns c =
+    let bytes = c.args.bytes.now in
+    any_from_yields_List (λ (b : ℕ). not (eqb b 0)) _ _ _ c.any.ensures.ran (YieldsList-from_slice bytes cc)
+    (λ x b q k. search (rules, tests))
+    ∙ sym (any_nonzero_is bytes)

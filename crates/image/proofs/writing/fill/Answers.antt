@@ -8,4 +8,4 @@ use Rattle.image.proofs.writing.fill.Goals as goal
 pub returns : goal.returns
 returns c =
     let a = c.args in
-    filled_all c.loop-i.invariant.2 (omega arith) ∙ data_from (length a.bytes.now) a.from (headed a.code.now)
+    filled_all c.loop-i.invariant.1 (omega arith) ∙ data_from (length a.bytes.now) a.from (headed a.code.now)

@@ -7,7 +7,7 @@ use Rattle.image.proofs.writing.write_blocks.Goals as goal
 
 pub loop-i-init : goal.loop-i-init
 unfolding blocks
-loop-i-init c = (omega arith, refl, refl)
+loop-i-init c = (refl, refl)
 
 pub loop-i-preserved : goal.loop-i-preserved
 loop-i-preserved c =
@@ -15,7 +15,7 @@ loop-i-preserved c =
     let l = c.loop-i in
     let at = block_size * l.i in
     let w : at + block_size - at ≡ block_size = omega arith in
-    let more = blocks_more a.count l.i (headed a.code.now) a.out.now (omega arith) (omega arith) l.invariant.2 w
+    let more = blocks_more a.count l.i (headed a.code.now) a.out.now (omega arith) (omega arith) l.invariant.1 w
     c.write_block.ensures in
     let size = blocks_size a.count l.i (headed a.code.now) a.out.now (omega arith) (omega arith) in
-    (omega arith, ap length more ∙ size, more)
+    (ap length more ∙ size, more)

@@ -12,31 +12,31 @@ use Rattle.soundness.proofs.holders.count_carried.Goals.{After-add_one}
 
 -- the first end is counted
 first : (c : After-add_one)
-    → Added end_count (λ (e : ℕ). δ e c.wide.result)
+    → Added end_count (λ (e : ℕ). δ e c.from.result)
     c.args.counts.now c.add_one.new.counts
 first c =
     let within = split_within c.in-Split.is c.requires.1 in
-    added_one end_count c.wide.result c.args.counts.now c.requires.0 (omega (arith, c.wide.ensures, within.0))
+    added_one end_count c.from.result c.args.counts.now c.requires.0 (omega (arith, c.from.ensures, within.0))
     c.add_one.ensures
 
 pub add_one-requires : goal.add_one-requires
 add_one-requires c =
     let within = split_within c.in-Split.is c.requires.1 in
-    (omega (arith, c.wide.ensures, within.0), omega (arith, c.requires.2 c.wide.result))
+    (omega (arith, c.from.ensures, within.0), omega (arith, c.requires.2 c.from.result))
 
 pub add_one-requires-in-Split : goal.add_one-requires-in-Split
 add_one-requires-in-Split c =
     let within = split_within c.in-Split.is c.requires.1 in
     let small = added_below places_in_all 1 (places_in_all + 1) (first (goal.at.add_one-requires-in-Split c).After-add_one) (omega arith)
     c.requires.2
-    (one_few c.wide.result) (omega arith) in
-    (omega (arith, c.wide-in-Split.ensures, within.1), omega (arith, small c.wide-in-Split.result))
+    (one_few c.from.result) (omega arith) in
+    (omega (arith, c.from-in-Split.ensures, within.1), omega (arith, small c.from-in-Split.result))
 
 pub returns-in-Split : goal.returns-in-Split
 returns-in-Split c =
     let is = c.in-Split.is in
     let within = split_within is c.requires.1 in
-    let second = added_one end_count c.wide-in-Split.result c.add_one.new.counts (omega arith)
-    (omega (arith, c.wide-in-Split.ensures, within.1)) c.add_one-in-Split.ensures in
+    let second = added_one end_count c.from-in-Split.result c.add_one.new.counts (omega arith)
+    (omega (arith, c.from-in-Split.ensures, within.1)) c.add_one-in-Split.ensures in
     added_as (λ (e : ℕ). in_last e (last_meaning c.args.last)) (added_both (first (goal.at.returns-in-Split c).After-add_one) second)
-    (split_counts is c.wide.ensures c.wide-in-Split.ensures)
+    (split_counts is c.from.ensures c.from-in-Split.ensures)

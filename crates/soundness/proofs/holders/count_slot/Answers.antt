@@ -16,6 +16,6 @@ returns-then-slot-eq0 c =
 pub returns : goal.returns
 returns c =
     let slot = c.args.slot in
-    let end = c.wide.result in
+    let end = c.from.result in
     let one = added_one end_count end c.args.counts.now c.requires.0 (omega arith) c.add_one.ensures in
-    added_as (λ (e : ℕ). in_slot e (view_optional slot)) one (slot_held slot c.if-slot-eq0.false c.wide.ensures)
+    added_as (λ (e : ℕ). in_slot e (view_optional slot)) one (slot_held slot c.if-slot-eq0.false c.from.ensures)

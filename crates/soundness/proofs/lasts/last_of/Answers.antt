@@ -8,12 +8,12 @@ use Rattle.rules.specs.Layout.{cell_size, queue_size, queues_at, view}
 use Rattle.soundness.specs.Lasts.{is_item, last_in}
 use Rattle.soundness.proofs.Finals.{count_few, last_none, last_some}
 use Rattle.soundness.proofs.lasts.last_of.Goals as goal
-use Rattle.soundness.proofs.lasts.last_of.Goals.{After-get64, After-wide-count}
+use Rattle.soundness.proofs.lasts.last_of.Goals.{After-get64, After-from-count}
 
 -- the count is within its limit
-counted : (c : After-wide-count) → c.wide-count.result ≤ queue_depth
+counted : (c : After-from-count) → c.from-count.result ≤ queue_depth
 counted c =
-    omega (arith, c.wide-count.ensures, count_few c.args.m.now c.args.e c.requires.1 c.requires.2)
+    omega (arith, c.from-count.ensures, count_few c.args.m.now c.args.e c.requires.1 c.requires.2)
 
 -- the cell that was read is the last one in use
 found : (c : After-get64)
@@ -23,7 +23,7 @@ found : (c : After-get64)
 found c =
     let m = c.args.m.now in
     let e = c.args.e in
-    let n = c.wide-count.ensures in
+    let n = c.from-count.ensures in
     let cell = c.get64.ensures ∙ ap (λ (k : ℕ). number_at cell_size m (queues_at + queue_size * e + cell_size * (k - 1))) n in
     last_some m e c.requires.1 c.requires.2 (λ z. c.if-count-eq0.false (n ∙ z)) cell
 
@@ -31,12 +31,12 @@ pub returns-then-count-eq0 : goal.returns-then-count-eq0
 unfolding last_within
 returns-then-count-eq0 c =
     record {
-      is = last_none c.args.m.now c.args.e c.requires.1 c.requires.2 (sym c.wide-count.ensures ∙ c.if-count-eq0.true);
+      is = last_none c.args.m.now c.args.e c.requires.1 c.requires.2 (sym c.from-count.ensures ∙ c.if-count-eq0.true);
       within = refl;
     }
 
 pub get64-requires : goal.get64-requires
-get64-requires c = let few = counted (goal.at.get64-requires c).After-wide-count in omega arith
+get64-requires c = let few = counted (goal.at.get64-requires c).After-from-count in omega arith
 
 pub last_in-requires : goal.last_in-requires
 last_in-requires c = (found c).1

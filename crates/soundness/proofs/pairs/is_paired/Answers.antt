@@ -21,26 +21,26 @@ in_use c =
 pub returns-then-partner-e : goal.returns-then-partner-e
 returns-then-partner-e c =
     paired_itself c.args.m.now c.args.e c.requires.1 (in_use (goal.at.returns-then-partner-e c).Else-is_free)
-    c.wide-partner.ensures c.if-partner-e.true
+    c.from-partner.ensures c.if-partner-e.true
 
 pub returns-then-partner-ge-END_COUNT : goal.returns-then-partner-ge-END_COUNT
 returns-then-partner-ge-END_COUNT c =
     let differs = c.if-partner-e.false in
     paired_over c.args.m.now c.args.e c.requires.1 (in_use (goal.at.returns-then-partner-ge-END_COUNT c).Else-is_free)
-    c.wide-partner.ensures differs c.if-partner-ge-END_COUNT.true
+    c.from-partner.ensures differs c.if-partner-ge-END_COUNT.true
 
 pub returns-then-is_free-2 : goal.returns-then-is_free-2
 returns-then-is_free-2 c =
     let m = c.args.m.now in
-    let free = sym (free_is m c.wide-partner.result c.requires.2 c.is_free-2.ensures) ∙ c.if-is_free-2.true in
-    paired_to_free m c.args.e c.requires.1 (in_use (goal.at.returns-then-is_free-2 c).Else-is_free) c.wide-partner.ensures
+    let free = sym (free_is m c.from-partner.result c.requires.2 c.is_free-2.ensures) ∙ c.if-is_free-2.true in
+    paired_to_free m c.args.e c.requires.1 (in_use (goal.at.returns-then-is_free-2 c).Else-is_free) c.from-partner.ensures
     c.if-partner-e.false c.if-partner-ge-END_COUNT.false free
 
 pub returns : goal.returns
 returns c =
     let m = c.args.m.now in
     let e = c.args.e in
-    let used = sym (free_is m c.wide-partner.result c.requires.2 c.is_free-2.ensures) ∙ c.if-is_free-2.false in
-    ap (λ (k : ℕ). eqb k e) c.wide.ensures
-    ∙ paired_back m e c.requires.1 (in_use (goal.at.returns c).Else-is_free) c.wide-partner.ensures c.if-partner-e.false
+    let used = sym (free_is m c.from-partner.result c.requires.2 c.is_free-2.ensures) ∙ c.if-is_free-2.false in
+    ap (λ (k : ℕ). eqb k e) c.from.ensures
+    ∙ paired_back m e c.requires.1 (in_use (goal.at.returns c).Else-is_free) c.from-partner.ensures c.if-partner-e.false
     c.if-partner-ge-END_COUNT.false used

@@ -10,12 +10,12 @@ use Rattle.soundness.proofs.waits.count_wait.Goals as goal
 pub add_one-requires : goal.add_one-requires
 add_one-requires c =
     let within = wait_within c.in-Wait.is c.requires.1 in
-    (omega (arith, c.wide.ensures, within), omega (arith, c.requires.2 c.wide.result))
+    (omega (arith, c.from.ensures, within), omega (arith, c.requires.2 c.from.result))
 
 pub returns-in-Wait : goal.returns-in-Wait
 returns-in-Wait c =
     let is = c.in-Wait.is in
     let within = wait_within is c.requires.1 in
-    let one = added_one record_count c.wide.result c.args.counts.now c.requires.0
-    (omega (arith, c.wide.ensures, within)) c.add_one.ensures in
-    added_as (λ (r : ℕ). named_by_last r (last_meaning c.args.last)) one (wait_names is c.wide.ensures)
+    let one = added_one record_count c.from.result c.args.counts.now c.requires.0
+    (omega (arith, c.from.ensures, within)) c.add_one.ensures in
+    added_as (λ (r : ℕ). named_by_last r (last_meaning c.args.last)) one (wait_names is c.from.ensures)

@@ -6,19 +6,18 @@ use Rattle.text.proofs.printing.put_hex.Goals as goal
 
 pub loop-i-init : goal.loop-i-init
 unfolding flat
-loop-i-init c = (omega arith, refl, refl)
+loop-i-init c = (refl, refl)
 
 pub loop-i-preserved : goal.loop-i-preserved
 loop-i-preserved c =
     let a = c.args in
     let l = c.loop-i in (
       omega arith,
-      omega arith,
-      hex_more a.out.now a.at a.bytes.now l.i (omega arith) l.invariant.2 c.put_byte.ensures,
+      hex_more a.out.now a.at a.bytes.now l.i (omega arith) l.invariant.1 c.put_byte.ensures,
     )
 
 pub returns : goal.returns
 returns c =
     let l = c.loop-i in
     let a = c.args in
-    hex_written a.at a.bytes.now l.i (omega arith) (omega arith) l.invariant.2
+    hex_written a.at a.bytes.now l.i (omega arith) l.invariant.1

@@ -1,13 +1,10 @@
 -- `put_hex` puts one byte after the other. The invariant: the first i are put. Assumes nothing.
-use Rattle.std.proofs.Common.{◌≡◌, ◌-◌, ◌≤◌, length, take}
+use Rattle.std.proofs.Common.{◌≡◌, length, take}
 use Rattle.rules.specs.Bytes.{flat}
 use Rattle.words.specs.Parts.{put_at}
 use Rattle.text.specs.Written.{hex_byte}
 use Rattle.text.proofs.printing.put_hex.Given as goal
 
 abbrev pub invariant-loop-i : goal.invariant-loop-i
-invariant-loop-i l = (l.i ≤ length l.bytes) × (length l.out ≡ length l.initial.out)
+invariant-loop-i l = (length l.out ≡ length l.initial.out)
     × (l.out ≡ put_at l.initial.out l.at (flat hex_byte (take l.i l.bytes)))
-
-abbrev pub decreases-loop-i : goal.decreases-loop-i
-decreases-loop-i l = length l.bytes - l.i

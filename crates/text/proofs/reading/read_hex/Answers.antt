@@ -1,5 +1,5 @@
 -- `read_hex` joins two digits after the other. The invariant: the first i bytes are put. Assumes nothing.
-use Rattle.std.proofs.Common.{◌+◌, ◌*◌, arith}
+use Rattle.std.proofs.Common.{refl, ◌+◌, ◌*◌, arith, length-set}
 use Rattle.text.proofs.Hex.{digit_below, hex_digits, bytes_more, bytes_written}
 use Rattle.text.proofs.reading.read_hex.Goals as goal
 
@@ -15,13 +15,12 @@ loop-i-preserved c =
     let a = c.args in
     let l = c.loop-i in
     let b = c.join_digits in (
-      omega arith,
-      omega arith,
-      bytes_more a.out.now a.at a.word.now l.i b.result (omega arith) l.invariant.2 b.ensures c.put8.ensures,
+      simp length-set l.invariant.0,
+      bytes_more a.out.now a.at a.word.now l.i b.result (omega arith) l.invariant.1 b.ensures refl,
     )
 
 pub returns : goal.returns
 returns c =
     let l = c.loop-i in
     let a = c.args in
-    bytes_written a.at a.word.now l.i (omega arith) (omega arith) l.invariant.2
+    bytes_written a.at a.word.now l.i (omega arith) l.invariant.1
