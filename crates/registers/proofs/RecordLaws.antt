@@ -23,38 +23,34 @@ use Rattle.words.proofs.Pieces.{length_flat, cut_flat}
 use Rattle.words.proofs.Tables.{table_is}
 use Rattle.keeping.proofs.LayoutLaws.{Sized, length_value, length_layout}
 use Rattle.memory.proofs.States.{record_number}
+use Rattle.registers.specs.declared.records.Status.{Status}
 use Rattle.registers.specs.declared.records.Status.TheVariants.{Free, Running, Waiting}
-use Rattle.registers.specs.Registers.{slot_bytes, registers_in, status_of, values_at}
+use Rattle.registers.specs.Registers.{slot_bytes, registers_in, status_of, status_byte, values_at}
 use Rattle.registers.proofs.SlotLaws.{length_slots}
 
 -- ---- status and registers
 
-abbrev pub status_byte : RecordState → ℕ
-status_byte free_record = 0
-status_byte (running g) = 1
-status_byte (waiting g) = 2
-
-pub record_bytes_lem : (x : RecordState) → record_bytes x ≡ status_byte x ∷ registers_bytes (registers_in x)
+pub record_bytes_lem : (x : RecordState) → record_bytes x ≡ status_byte (status_of x) ∷ registers_bytes (registers_in x)
 unfolding record_bytes
 record_bytes_lem free_record = refl
 record_bytes_lem (running g) = refl
 record_bytes_lem (waiting g) = refl
 
 -- the status that a byte stands for
-pub status_free : {b : ℕ} (x : RecordState) → b ≡ status_byte x → b ≡ 0 → Free ≡ status_of x
-status_free free_record e h = refl
-status_free (running g) e h = absurd (omega arith)
-status_free (waiting g) e h = absurd (omega arith)
+pub status_free : {b : ℕ} (s : Status) → b ≡ status_byte s → b ≡ 0 → Free ≡ s
+status_free Free e h = refl
+status_free Running e h = absurd (omega arith)
+status_free Waiting e h = absurd (omega arith)
 
-pub status_running : {b : ℕ} (x : RecordState) → b ≡ status_byte x → b ≡ 1 → Running ≡ status_of x
-status_running free_record e h = absurd (omega arith)
-status_running (running g) e h = refl
-status_running (waiting g) e h = absurd (omega arith)
+pub status_running : {b : ℕ} (s : Status) → b ≡ status_byte s → b ≡ 1 → Running ≡ s
+status_running Free e h = absurd (omega arith)
+status_running Running e h = refl
+status_running Waiting e h = absurd (omega arith)
 
-pub status_waiting : {b : ℕ} (x : RecordState) → b ≡ status_byte x → b ≢ 0 → b ≢ 1 → Waiting ≡ status_of x
-status_waiting free_record e h k = absurd (h e)
-status_waiting (running g) e h k = absurd (k e)
-status_waiting (waiting g) e h k = refl
+pub status_waiting : {b : ℕ} (s : Status) → b ≡ status_byte s → b ≢ 0 → b ≢ 1 → Waiting ≡ s
+status_waiting Free e h k = absurd (h e)
+status_waiting Running e h k = absurd (k e)
+status_waiting Waiting e h k = refl
 
 -- the registers of a record within the limits are within them, those of a free one too
 pub registers_within_lem : (x : RecordState) → RecordWithin x → RegistersWithin (registers_in x)
@@ -185,16 +181,16 @@ module _ (st : State) (z : Sized st) (r : ℕ) (h : r < record_count) {m : List 
     (p : at ≡ records_at + record_size * r) where
   -- a number within the record
   pub record_read : (k o : ℕ) → o + k ≤ record_size
-      → number_at k m (at + o) ≡ number_at k (status_byte (record_at st r) ∷ registers_bytes (registers_in (record_at st r))) o
+      → number_at k m (at + o) ≡ number_at k (status_byte (status_of (record_at st r)) ∷ registers_bytes (registers_in (record_at st r))) o
   record_read k o l =
       (λ i. number_at k (e i) (p i + o)) ∙ record_number st z k r o h l
       ∙ ap (λ (b : List ℕ). number_at k b o) (record_bytes_lem (record_at st r))
 
   pub byte_read : (o : ℕ) → o < record_size
-      → get_or m (at + o) 0 ≡ get_or (status_byte (record_at st r) ∷ registers_bytes (registers_in (record_at st r))) o 0
+      → get_or m (at + o) 0 ≡ get_or (status_byte (status_of (record_at st r)) ∷ registers_bytes (registers_in (record_at st r))) o 0
   byte_read o l = let one : o + 1 ≤ record_size = omega arith in omega (arith, record_read 1 o one)
 
-  pub status_read : get_or m at 0 ≡ status_byte (record_at st r)
+  pub status_read : get_or m at 0 ≡ status_byte (status_of (record_at st r))
   status_read =
       let here : at ≡ at + 0 = omega arith in
       ap (λ (k : ℕ). get_or m k 0) here ∙ byte_read 0 (omega arith)
@@ -202,7 +198,7 @@ module _ (st : State) (z : Sized st) (r : ℕ) (h : r < record_count) {m : List 
   -- sixteen values
   pub values_read : (o : ℕ) (l : List Value) → o + value_size * stack_depth ≤ record_size
       → ((j : ℕ) → j < stack_depth
-      → to_z w32 (number_at value_size (status_byte (record_at st r) ∷ registers_bytes (registers_in (record_at st r)))
+      → to_z w32 (number_at value_size (status_byte (status_of (record_at st r)) ∷ registers_bytes (registers_in (record_at st r)))
       (o + value_size * j))
       ≡ get_or (pad stack_depth (pos 0) l) j (pos 0))
       → values_at m (at + o) ≡ pad stack_depth (pos 0) l
@@ -233,4 +229,4 @@ module _ (st : State) (z : Sized st) (r : ℕ) (h : r < record_count) {m : List 
       ∙ get_or-drop (at + slots_from) m j 0
       ∙ ap (λ (i : ℕ). get_or m i 0) together
       ∙ byte_read (slots_from + j) (omega arith)
-      ∙ slot_read (status_byte (record_at st r)) (registers_in (record_at st r)) j j_small)
+      ∙ slot_read (status_byte (status_of (record_at st r))) (registers_in (record_at st r)) j j_small)

@@ -1,12 +1,12 @@
 -- Arrays of values: what a shift by one makes of a padded list, their counts, and the values passed to a callee. Assumes nothing.
 use mathlib.Core.Path.{◌≡◌, refl, sym, ap, ◌∙◌}
-use mathlib.Core.List.{List, [], ◌∷◌, reverse, reverse-append}
+use mathlib.Core.List.{List, [], ◌∷◌, ◌++◌, append-nil, reverse, reverse-append}
 use Prim.Native.Nat.{ℕ, zero, suc, ◌+◌, ◌-◌, ◌≤◌, ◌<◌}
 use native.Mathlib.Numerals.{add-one}
-use native.Mathlib.Decide.{dec_lt}
+use native.Mathlib.Nat.{le_of_suc-le-suc}
 use native.Mathlib.Omega.{arith}
-use lib.ListN.{length, get_or, take, drop, length-drop, get_or-eq_default}
-use lib.Seq.{get_or-drop, drop-drop, take-suc, set-get_or}
+use lib.ListN.{length, get_or, set, take, drop, length-drop, drop_of_length-le}
+use lib.Seq.{get_or-drop, drop-drop, take-suc}
 use lib.IntN.{ℤ, pos}
 use mir.Syntax.{w32}
 use mir.Val.{Val, to_z, of_z, SFits}
@@ -16,10 +16,12 @@ use denote.Shadow.{shadow}
 use denote.Laws.{Is}
 use borrow.Author.Rules.{rules}
 use Rattle.rules.specs.Limits.{stack_depth}
-use Rattle.rules.specs.Bytes.{pad, table}
+use Rattle.std.specs.List.{copy_within}
+use Rattle.std.proofs.Common.{take_all}
+use Rattle.std.proofs.lemmas.List.{set-append_right}
+use Rattle.rules.specs.Bytes.{pad}
 use Rattle.rules.specs.State.{Value, Registers as Process, registers}
-use Rattle.words.proofs.Pads.{length_pad, get_d_pad}
-use Rattle.words.proofs.Tables.{table_is, Filled, filled_more, filled_all}
+use Rattle.words.proofs.Pads.{length_pad, get_d_pad, take_pad, drop_pad}
 use Rattle.registers.specs.Registers.{stored, passed}
 
 -- ---- the values of an array fit
@@ -35,11 +37,6 @@ values_fit n xs vs p i = each_fits xs p.0 i p.1.1
 
 -- ---- padded lists
 
--- a table that agrees with a list is the list, padded
-pub table_pad : (n : ℕ) (f : ℕ → Value) (l : List Value) → ((i : ℕ) → i < n → f i ≡ get_or l i (pos 0)) → table n f ≡ pad n (pos 0) l
-table_pad n f l h =
-    table_is (pos 0) n f (pad n (pos 0) l) (length_pad n (pos 0) l) (λ i p. h i p ∙ sym (get_d_pad n (pos 0) l i p))
-
 -- a value as it is read back from its bits
 abbrev pub moved : Value → Value
 moved v = to_z w32 (of_z w32 v)
@@ -49,38 +46,55 @@ pub value_is : (i : ℕ) {a : List Value} (l : List Value) → i < stack_depth �
     → get_or a i (pos 0) ≡ get_or l i (pos 0)
 value_is i l h e = ap (λ (x : List Value). get_or x i (pos 0)) e ∙ get_d_pad stack_depth (pos 0) l i h
 
--- v in front of an array's values: each stands one cell on
-pub front_next : (v : Value) (a : List Value) (k : ℕ) → 0 < k → get_or a (k - 1) (pos 0) ≡ get_or (v ∷ a) k (pos 0)
-front_next v a zero h = absurd (omega arith)
-front_next v a (suc k) h = ap (λ (j : ℕ). get_or a j (pos 0)) (omega arith)
+-- one more cell behind a padded list
+pad_last : (n : ℕ) (z : Value) (l : List Value) → length l ≤ n → pad n z l ++ (z ∷ []) ≡ pad (suc n) z l
+unfolding pad
+pad_last zero z [] h = refl
+pad_last zero z (x ∷ l) h = absurd (omega arith)
+pad_last (suc n) z [] h = ap (λ (r : List Value). z ∷ r) (pad_last n z [] (omega arith))
+pad_last (suc n) z (x ∷ l) h = ap (λ (r : List Value). x ∷ r) (pad_last n z l (le_of_suc-le-suc h))
 
-pub front_law : (v : Value) (a l : List Value) → a ≡ pad stack_depth (pos 0) l
-    → table stack_depth (λ (j : ℕ). get_or (v ∷ a) j (pos 0)) ≡ pad stack_depth (pos 0) (v ∷ l)
-front_law v a l e = table_pad stack_depth (λ (j : ℕ). get_or (v ∷ a) j (pos 0)) (v ∷ l) go
-  where
-    go : (i : ℕ) → i < stack_depth → get_or (v ∷ a) i (pos 0) ≡ get_or (v ∷ l) i (pos 0)
-    go zero h = refl
-    go (suc i) h = value_is i l (omega arith) e
+set_only : (z : Value) (l : List Value) → length l ≡ 1 → set l 0 z ≡ z ∷ []
+set_only z [] e = absurd (omega arith)
+set_only z (x ∷ []) e = refl
+set_only z (x ∷ y ∷ l) e = absurd (omega arith)
 
--- the values behind the first: the last cell stays zero
-pub behind_filled : (a b : List Value) (k : ℕ) → length a ≡ stack_depth → k + 1 ≡ stack_depth
-    → Filled (pos 0) stack_depth (λ (j : ℕ). get_or a (j + 1) (pos 0)) b k → get_or b k (pos 0) ≡ pos 0
-    → b ≡ table stack_depth (λ (j : ℕ). get_or a (j + 1) (pos 0))
-behind_filled a b k s l f z =
-    let past = get_or-eq_default a (pos 0) {n = k + 1} (omega arith) in
-    sym (set-get_or b k (pos 0)) ∙ filled_all (filled_more f (omega arith) (z ∙ sym past)) (omega arith)
+module _ (n : ℕ) (z : Value) where
+  behind_first : (l : List Value) → take (n - 0) (pad (suc n) z l) ++ drop (1 + (n - 0)) (pad (suc n) z l) ≡ pad n z l
+  behind_first l =
+      let cells : List Value = pad (suc n) z l in
+      let all : n - 0 ≡ n = omega arith in
+      let past : length cells ≤ 1 + n = omega (arith, length_pad (suc n) z l) in
+      ap (λ (k : ℕ). take k cells ++ drop (1 + k) cells) all
+      ∙ ap (λ (r : List Value). take n cells ++ r) (drop_of_length-le cells past)
+      ∙ append-nil (take n cells)
+      ∙ ap (λ (k : ℕ). take n (pad k z l)) (sym (add-one n))
+      ∙ take_pad n 1 z l
 
-pub behind_law : (a l : List Value) → length l ≤ stack_depth → a ≡ pad stack_depth (pos 0) l
-    → table stack_depth (λ (j : ℕ). get_or a (j + 1) (pos 0)) ≡ pad stack_depth (pos 0) (drop 1 l)
-behind_law a l h e =
-    table_pad stack_depth (λ (j : ℕ). get_or a (j + 1) (pos 0)) (drop 1 l)
-    (λ i p. go i (dec_lt (i + 1) stack_depth) ∙ ap (λ (k : ℕ). get_or l k (pos 0)) (omega arith) ∙ sym (get_or-drop 1 l i (pos 0)))
-  where
-    go : (i : ℕ) → Dec (i + 1 < stack_depth) → get_or a (i + 1) (pos 0) ≡ get_or l (i + 1) (pos 0)
-    go i (yes q) = value_is (i + 1) l q e
-    go i (no q) =
-        let size = ap length e ∙ length_pad stack_depth (pos 0) l in
-        get_or-eq_default a (pos 0) {n = i + 1} (omega arith) ∙ sym (get_or-eq_default l (pos 0) {n = i + 1} (omega arith))
+  -- the padded list moved on by one cell, and v in front
+  pub front_pad : (v : Value) (l : List Value) → set (copy_within (pad (suc n) z l) 0 n 1) 0 v ≡ pad (suc n) z (v ∷ l)
+  unfolding pad
+  front_pad v [] = ap (λ (r : List Value). v ∷ r) (behind_first [])
+  front_pad v (x ∷ l) = ap (λ (r : List Value). v ∷ r) (behind_first (x ∷ l))
+
+  -- the padded list moved back by one cell, and the last cell zero
+  pub behind_pad : (l : List Value) → length l ≤ suc n → set (copy_within (pad (suc n) z l) 1 (suc n) 0) n z ≡ pad (suc n) z (drop 1 l)
+  behind_pad l h =
+      let cells : List Value = pad (suc n) z l in
+      let front : List Value = pad n z (drop 1 l) in
+      let last : List Value = drop (0 + (suc n - 1)) cells in
+      let all : suc n - 1 ≡ n = omega arith in
+      let one : 1 + n ≡ suc n = omega arith in
+      let none : n - n ≡ 0 = omega arith in
+      let moved : take (suc n - 1) (drop 1 cells) ≡ front =
+      (λ i. take (all i) (drop 1 (pad (sym one i) z l)))
+      ∙ ap (take n) (drop_pad 1 n z l)
+      ∙ take_all n front (omega (arith, length_pad n z (drop 1 l))) in
+      ap (λ (r : List Value). set (r ++ last) n z) moved
+      ∙ set-append_right front last n n z (length_pad n z (drop 1 l)) (omega arith)
+      ∙ ap (λ (k : ℕ). front ++ set last k z) none
+      ∙ ap (λ (r : List Value). front ++ r) (set_only z last (omega (arith, length-drop (0 + (suc n - 1)) cells, length_pad (suc n) z l)))
+      ∙ pad_last n z (drop 1 l) (omega (arith, length-drop 1 l))
 
 -- another value in front
 pub front_is : (l : List Value) {v w : Value} → v ≡ w → pad stack_depth (pos 0) (v ∷ l) ≡ pad stack_depth (pos 0) (w ∷ l)

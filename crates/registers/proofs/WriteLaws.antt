@@ -13,11 +13,11 @@ use Rattle.words.proofs.Parts.{put_append}
 use Rattle.keeping.proofs.LayoutLaws.{Sized}
 use Rattle.memory.proofs.States.{record_written}
 use Rattle.registers.specs.declared.Registers.{Registers}
-use Rattle.registers.specs.Registers.{slot_bytes, registers_in}
+use Rattle.registers.specs.Registers.{slot_bytes, registers_in, status_of, status_byte}
 use Rattle.registers.proofs.Fields.{StandsFor}
 use Rattle.registers.proofs.SlotLaws.{length_slots}
 use Rattle.registers.proofs.RecordLaws.{slots_from, stack_from, environment_from, numbers, stack_bytes, environment_bytes}
-use Rattle.registers.proofs.RecordLaws.{length_stack, status_byte, record_bytes_lem}
+use Rattle.registers.proofs.RecordLaws.{length_stack, record_bytes_lem}
 
 -- status, place and counts
 pub numbers_written : (m : List ℕ) (at status place stack environment : ℕ) {m₁ m₂ m₃ m₄ : List ℕ}
@@ -60,11 +60,11 @@ module _ (m : List ℕ) (at status : ℕ) (g : Process) where
 
 -- a record's bytes written where it stands are the state with that record
 pub record_saved : (st : State) → Sized st → (r : ℕ) (x : RecordState) → r < record_count → {m : List ℕ} → m ≡ layout st
-    → put_at m (records_at + record_size * r) (status_byte x ∷ registers_bytes (registers_in x)) ≡ layout (set_record st r x)
+    → put_at m (records_at + record_size * r) (status_byte (status_of x) ∷ registers_bytes (registers_in x)) ≡ layout (set_record st r x)
 record_saved st z r x h e =
     (λ i. put_at (e i) (records_at + record_size * r) (sym (record_bytes_lem x) i)) ∙ record_written st z r x h
 
 -- all of a free record is zero
-pub all_zero_lem : status_byte free_record ∷ registers_bytes (registers_in free_record) ≡ replicate record_size 0
+pub all_zero_lem : status_byte (status_of free_record) ∷ registers_bytes (registers_in free_record) ≡ replicate record_size 0
 unfolding registers_bytes no_registers pad flat value_bytes
 all_zero_lem = refl

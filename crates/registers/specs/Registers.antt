@@ -53,6 +53,12 @@ status_of free_record = Free
 status_of (running g) = Running
 status_of (waiting g) = Waiting
 
+-- the byte that says so
+abbrev pub status_byte : Status → ℕ
+status_byte Free = 0
+status_byte Running = 1
+status_byte Waiting = 2
+
 -- what a local slot stands for: no end, or this one
 abbrev pub held_end : Held → Option ℕ
 held_end Empty = none

@@ -186,11 +186,8 @@ impl Registers {
         self.environment = [0; ENVIRONMENT_DEPTH];
         self.environment_count = 0;
         let mut callee = self;
-        let mut k = 0;
-        while k < n {
-            let next = callee.store();
-            callee = next;
-            k += 1;
+        for _ in 0..n {
+            callee = callee.store();
         }
         callee
     }

@@ -9,7 +9,7 @@ ghost use Rattle.rules.specs.Sound.{RecordWithin};
 ghost use Rattle.rules.specs.Numbers.{record_number};
 ghost use Rattle.words.specs.Parts.{put_at};
 ghost use Rattle.keeping.proofs.LayoutLaws.{Sized};
-ghost use Rattle.registers.specs.Registers.{registers_of, registers_in, status_of};
+ghost use Rattle.registers.specs.Registers.{registers_of, registers_in, status_of, status_byte};
 
 use crate::{Registers, slots, values};
 use rules::offsets::{
@@ -19,7 +19,7 @@ use rules::offsets::{
 use rules::{CODE_LIMIT, ENVIRONMENT_DEPTH, RECORD_COUNT, Record, SLOT_COUNT, STACK_DEPTH};
 
 // What a record is.
-#[derive(Clone, Copy)]
+#[derive(Clone, Copy, PartialEq, Eq)]
 pub enum Status {
     Free,
     Running,
@@ -43,6 +43,17 @@ pub fn status_of(m: &[u8], r: Record) -> Status
         0 => Status::Free,
         1 => Status::Running,
         _ => Status::Waiting,
+    }
+}
+
+// The byte that says what a record is.
+fn status_byte(status: Status) -> u8
+    ensures { result ≡ status_byte status }
+{
+    match status {
+        Status::Free => 0,
+        Status::Running => 1,
+        Status::Waiting => 2,
     }
 }
 
@@ -108,13 +119,20 @@ fn write_numbers(
 }
 
 // Record r gets a status and registers.
-fn save(m: &mut [u8], r: Record, status: u8, x: Registers)
+fn save(m: &mut [u8], r: Record, status: Status, x: Registers)
     requires { (length m.old ≡ state_size) × (record_number r < record_count) }
     ensures { (g : Process) → x ≡ registers_of g
-        → m.new ≡ put_at m.old (records_at + record_size * record_number r) (status ∷ registers_bytes g) }
+        → m.new ≡ put_at m.old (records_at + record_size * record_number r) (status_byte status ∷ registers_bytes g) }
 {
     let at = start_of(r);
-    write_numbers(m, at, status, x.place, x.stack_count, x.environment_count);
+    write_numbers(
+        m,
+        at,
+        status_byte(status),
+        x.place,
+        x.stack_count,
+        x.environment_count,
+    );
     let held = x.slots;
     slots::write(m, at + SLOTS_FROM, held);
     let stack = x.stack;
@@ -123,13 +141,14 @@ fn save(m: &mut [u8], r: Record, status: u8, x: Registers)
     values::write(m, at + ENVIRONMENT_FROM, environment);
 }
 
-// Record r runs with these registers.
+// Record r runs with these registers. It and the next are two functions, since one that took a `Status` would be asked for registers of a
+// free record, which has none.
 pub fn save_running(m: &mut [u8], r: Record, x: Registers)
     requires { (length m.old ≡ state_size) × (record_number r < record_count) }
     ensures { (st : State) (g : Process) → Sized st → m.old ≡ layout st → x ≡ registers_of g
         → m.new ≡ layout (set_record st (record_number r) (running g)) }
 {
-    save(m, r, 1, x);
+    save(m, r, Status::Running, x);
 }
 
 // Record r waits with these registers.
@@ -138,7 +157,7 @@ pub fn save_waiting(m: &mut [u8], r: Record, x: Registers)
     ensures { (st : State) (g : Process) → Sized st → m.old ≡ layout st → x ≡ registers_of g
         → m.new ≡ layout (set_record st (record_number r) (waiting g)) }
 {
-    save(m, r, 2, x);
+    save(m, r, Status::Waiting, x);
 }
 
 // Record r becomes free, all of it zero.

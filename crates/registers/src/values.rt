@@ -10,18 +10,15 @@ ghost use Rattle.registers.specs.Registers.{values_at};
 
 use rules::STACK_DEPTH;
 use rules::offsets::VALUE_SIZE;
+use std::array;
 
 // v in front of the values.
 pub fn in_front(v: i32, values: [i32; STACK_DEPTH]) -> [i32; STACK_DEPTH]
     ensures { (l : List Value) → values ≡ pad stack_depth (pos 0) l → result ≡ pad stack_depth (pos 0) (v ∷ l) }
 {
-    let mut anew = [0; STACK_DEPTH];
+    let mut anew = values;
+    anew.copy_within(..STACK_DEPTH - 1, 1);
     anew[0] = v;
-    let mut k = 1;
-    while k < STACK_DEPTH {
-        anew[k] = values[k - 1];
-        k += 1;
-    }
     anew
 }
 
@@ -30,12 +27,9 @@ pub fn behind_first(values: [i32; STACK_DEPTH]) -> [i32; STACK_DEPTH]
     ensures { (l : List Value) → length l ≤ stack_depth → values ≡ pad stack_depth (pos 0) l
         → result ≡ pad stack_depth (pos 0) (drop 1 l) }
 {
-    let mut anew = [0; STACK_DEPTH];
-    let mut k = 0;
-    while k + 1 < STACK_DEPTH {
-        anew[k] = values[k + 1];
-        k += 1;
-    }
+    let mut anew = values;
+    anew.copy_within(1.., 0);
+    anew[STACK_DEPTH - 1] = 0;
     anew
 }
 
@@ -44,13 +38,7 @@ pub fn read(m: &[u8], at: usize) -> [i32; STACK_DEPTH]
     requires { at + value_size * stack_depth ≤ length m.now }
     ensures { result ≡ values_at m.now at }
 {
-    let mut values = [0; STACK_DEPTH];
-    let mut k = 0;
-    while k < STACK_DEPTH {
-        values[k] = words::get_signed(m, at + VALUE_SIZE * k);
-        k += 1;
-    }
-    values
+    array::from_fn(|k| words::get_signed(m, at + VALUE_SIZE * k))
 }
 
 // The values go into m from `at` on.
@@ -58,9 +46,7 @@ pub fn write(m: &mut [u8], at: usize, values: [i32; STACK_DEPTH])
     requires { at + value_size * stack_depth ≤ length m.old }
     ensures { m.new ≡ put_at m.old at (flat value_bytes values) }
 {
-    let mut k = 0;
-    while k < STACK_DEPTH {
+    for k in 0..STACK_DEPTH {
         words::put_signed(m, at + VALUE_SIZE * k, values[k]);
-        k += 1;
     }
 }

@@ -1,5 +1,5 @@
 -- Laws of `table`, and of a list that a loop fills from the front until it is a table. Assumes nothing.
-use mathlib.Core.Path.{◌≡◌, refl, sym, ap, ◌∙◌}
+use mathlib.Core.Path.{◌≡◌, refl, sym, ap, ◌∙◌, subst}
 use mathlib.Core.List.{List}
 use mathlib.Core.Logic.{⊎_elim}
 use Prim.Native.Nat.{ℕ, zero, suc, ◌+◌, ◌≤◌, ◌<◌}
@@ -8,6 +8,8 @@ use native.Mathlib.Numerals.{add-one}
 use native.Mathlib.Omega.{arith}
 use lib.ListN.{length, get_or, set, length-set}
 use lib.Seq.{ext_get_or, get_or-set_same, get_or-set_other}
+use denote.Param.Members.{Mut, Called}
+use Rattle.std.specs.Array.{IsFromFnResult, IsFromFnResultFrom}
 use Rattle.rules.specs.Bytes.{table}
 
 pub length_table : {A : Type 0} (n : ℕ) (f : ℕ → A) → length (table n f) ≡ n
@@ -54,3 +56,17 @@ pub filled_all : {A : Type 0} {d : A} {n : ℕ} {f : ℕ → A} {a : List A} {k 
 filled_all {d = d} {n = n} {f = f} {a = a} {k = k} h l =
     ext_get_or d a (table n f) (h.size ∙ sym (length_table n f))
     (λ i p. let q : i < n = rw h.size at p in h.done i (omega arith) ∙ sym (get_d_table n f i d q))
+
+-- an array that `from_fn` filled by a closure that changes nothing: each place holds what the call there gives
+pub filled_from_fn : {F A : Type 0} {g : Mut F (ℕ × Unit {0}) A} {p : F} {a : List A} {n : ℕ} (d : A) (f : ℕ → A)
+    → IsFromFnResult g p a n → ((i : ℕ) (x : A) (q : F) → i < n → Called g p (i, tt) x q → (q ≡ p) × (x ≡ f i)) → Filled d n f a n
+filled_from_fn {F} {A} {g} {p} {a} {n} d f r one = record { size = r.long; done = λ j h. go n 0 (omega arith) r.each j (omega arith) (omega arith) }
+  where
+    go : (k i : ℕ) → i + k ≡ n → IsFromFnResultFrom g p a i k → (j : ℕ) → i ≤ j → j < n → get_or a j d ≡ f j
+    go zero i e u j l h = absurd (omega arith)
+    go (suc k) i e u j l h =
+        let call = one i u.1 u.0 (omega arith) u.3 in
+        ⊎_elim
+        (λ (q : i ≡ j). subst (λ (m : ℕ). get_or a m d ≡ f m) q (u.2.1 d ∙ call.1))
+        (λ (q : i < j). go k (i + 1) (omega arith) (subst (λ (s : F). IsFromFnResultFrom g s a (i + 1) k) call.0 u.4) j (omega arith) h)
+        (eq-or-lt_of_le l)

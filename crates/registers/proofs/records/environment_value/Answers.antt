@@ -6,8 +6,8 @@ use Rattle.rules.specs.State.{record_at}
 use Rattle.rules.specs.Layout.{value_size, record_size}
 use Rattle.rules.specs.Numbers.{record_number}
 use Rattle.words.proofs.Pads.{get_d_pad}
-use Rattle.registers.specs.Registers.{registers_in}
-use Rattle.registers.proofs.RecordLaws.{status_byte, environment_from, registers_within_lem, record_read, environment_read}
+use Rattle.registers.specs.Registers.{status_of, status_byte, registers_in}
+use Rattle.registers.proofs.RecordLaws.{environment_from, registers_within_lem, record_read, environment_read}
 use Rattle.registers.proofs.records.environment_value.Goals as goal
 
 pub returns : goal.returns
@@ -25,5 +25,5 @@ returns c st z w e =
     ∙ c.get_signed.ensures
     ∙ ap (λ (k : ℕ). to_z w32 (number_at value_size c.args.m.now k)) together
     ∙ ap (to_z w32) (record_read st z r c.requires.m_len.1 e p value_size (environment_from + value_size * n) fits)
-    ∙ environment_read (status_byte x) g (registers_within_lem x w) n small
+    ∙ environment_read (status_byte (status_of x)) g (registers_within_lem x w) n small
     ∙ get_d_pad environment_depth (pos 0) g.environment n small

@@ -1,24 +1,18 @@
--- `any_held` looks at one slot after the other. The invariant: some slot is held exactly if one behind the first k is. Assumes nothing.
-use Rattle.std.proofs.Common.{arith, get_or}
+-- `any` tests one slot's byte after the other. Assumes nothing.
+use Rattle.std.proofs.Common.{◌∙◌, ap, map, rules}
 use mathlib.Core.Option.{none}
-use Rattle.registers.proofs.SlotLaws.{slot_byte, held_byte, empty_byte}
-use Rattle.registers.proofs.Search.{found, passed, none_found, held_search}
+use Rattle.rules.specs.Limits.{slot_count}
+use Rattle.rules.specs.Layout.{optional}
+use Rattle.words.proofs.Pads.{pad_same}
+use borrow.Author.Tests.{tests}
+use Rattle.std.proofs.lemmas.Iterator.{YieldsList-from_slice}
+use Rattle.std.proofs.lemmas.Iterator.Search.{any_from_yields_List}
+use Rattle.std.specs.List.{list_any}
+use Rattle.registers.proofs.Search.{byte_held, held_any}
 use Rattle.registers.proofs.slots.any_held.Goals as goal
 
-pub returns-then-slots-k-ne0 : goal.returns-then-slots-k-ne0
-returns-then-slots-k-ne0 c l n e =
-    let k = c.loop-k.k in
-    found held_search none tt tt l k (c.loop-k.invariant.1 l n e) (omega arith)
-    (held_byte (get_or l k none) (slot_byte l k (omega arith) e) c.if-slots-k-ne0.true)
-
-pub loop-k-preserved : goal.loop-k-preserved
-loop-k-preserved c =
-    let k = c.loop-k.k in (
-      omega arith,
-      λ l n e.
-          passed held_search none tt tt l k (c.loop-k.invariant.1 l n e) (omega arith)
-          (empty_byte (get_or l k none) (slot_byte l k (omega arith) e) c.if-slots-k-ne0.false),
-    )
-
 pub returns : goal.returns
-returns c l n e = none_found held_search none tt tt l c.loop-k.k (c.loop-k.invariant.1 l n e) (omega arith)
+returns c l n e =
+    let held = c.args.slots in
+    any_from_yields_List byte_held _ _ _ c.any.ensures.ran (YieldsList-from_slice held (cc)) (λ x b q k. search (rules, tests))
+    ∙ ap (list_any byte_held) (e ∙ ap (map optional) (pad_same slot_count none l n)) ∙ held_any l

@@ -1,18 +1,14 @@
--- `behind_first` puts each value one cell back. The invariant: the first k are the next ones, and the last cell is still zero. Assumes
--- nothing.
-use Rattle.std.proofs.Common.{◌≡◌, ap, ◌∙◌, ℕ, arith, length, get_or, pos, rules}
-use Rattle.rules.specs.Limits.{stack_depth}
-use Rattle.registers.proofs.ValueLaws.{behind_filled, behind_law}
+-- The values move back by one cell, and the last cell is zero. Assumes nothing.
+use Rattle.std.proofs.Common.{◌≡◌, ap, ◌∙◌, List, length, set, pos}
+use Rattle.std.specs.List.{copy_within}
+use Rattle.rules.specs.State.{Value}
+use Rattle.rules.specs.Bytes.{pad}
+use Rattle.words.proofs.Pads.{length_pad}
+use Rattle.registers.proofs.ValueLaws.{behind_pad}
 use Rattle.registers.proofs.values.behind_first.Goals as goal
-use Rattle.registers.proofs.values.behind_first.Goals.{Start}
-
-sixteen : (s : Start) → length s.args.values ≡ stack_depth
-sixteen s = search rules
 
 pub returns : goal.returns
 returns c l h e =
-    let x = c.loop-k in
-    let last : x.k ≡ 15 = omega arith in
-    behind_filled c.args.values x.anew x.k (sixteen (goal.at.returns c).Start) (omega arith) x.invariant.1
-    (ap (λ (k : ℕ). get_or x.anew k (pos 0)) last ∙ x.invariant.2)
-    ∙ behind_law c.args.values l h e
+    let same : copy_within c.args.values 1 (length c.args.values) 0 ≡ copy_within (pad 16 (pos 0) l) 1 16 0 = rw (e, length_pad 16 (pos 0) l) in
+    ap (λ (r : List Value). set r 15 (pos 0)) (c.copy_within.ensures.after ∙ same)
+    ∙ behind_pad 15 (pos 0) l h

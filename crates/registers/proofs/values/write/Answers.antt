@@ -26,7 +26,7 @@ sixteen s = search rules
 
 pub loop-k-init : goal.loop-k-init
 unfolding flat
-loop-k-init c = (omega arith, refl, refl)
+loop-k-init c = (refl, refl)
 
 pub loop-k-preserved : goal.loop-k-preserved
 loop-k-preserved c =
@@ -34,4 +34,4 @@ loop-k-preserved c =
     let a = c.args in
     let long = sixteen (goal.at.loop-k-preserved c).Start in
     let fits = values_fit stack_depth a.values _ c.well_formed.1.1.0 l.k in
-    (omega arith, omega arith, turn a.m.now a.at a.values l.k (omega arith) fits l.invariant.2 c.put_signed.ensures)
+    (omega arith, turn a.m.now a.at a.values l.k (omega arith) fits l.invariant.1 c.put_signed.ensures)
