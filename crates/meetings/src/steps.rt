@@ -17,7 +17,7 @@ ghost use Rattle.meetings.specs.Stepped.{Met, DatumMet, SplitMet};
 use crate::heads::Datum;
 use crate::wanted::{Wanted, wanted_at};
 use registers::Registers;
-use rules::{End, HEADS_MISMATCH, NO_RECORD_FOR_FORK, RECORD_COUNT, Record, Reply};
+use rules::{End, HEADS_MISMATCH, NO_RECORD_FOR_FORK, Record, Reply};
 
 // Both heads are removed, and record r runs with these registers.
 fn take_both(m: &mut [u8], from: End, to: End, r: Record, x: Registers)
@@ -41,7 +41,7 @@ fn deliver_value(m: &mut [u8], lengths: &[u8; 256], from: End, to: End, v: i32, 
     ensures { DatumMet m.old (end_number from) (end_number to) (record_number r) (value v) result m.new }
 {
     let held = registers::load(m, r);
-    let Wanted::Value(next) = wanted_at(m, lengths, held.place) else {
+    let Some(Wanted::Value(next)) = wanted_at(m, lengths, held.place) else {
         return Reply::Refused(HEADS_MISMATCH);
     };
     let pushed = held.push(v);
@@ -56,7 +56,7 @@ fn deliver_handle(m: &mut [u8], lengths: &[u8; 256], from: End, to: End, n: u8, 
     ensures { DatumMet m.old (end_number from) (end_number to) (record_number r) (handle n) result m.new }
 {
     let held = registers::load(m, r);
-    let Wanted::Handle(k) = wanted_at(m, lengths, held.place) else {
+    let Some(Wanted::Handle(k)) = wanted_at(m, lengths, held.place) else {
         return Reply::Refused(HEADS_MISMATCH);
     };
     if k <= n {
@@ -129,19 +129,20 @@ pub fn divide(
         result m.new }
 {
     let held = registers::load(m, r);
-    let Wanted::Split {
-        a,
-        first: one,
-        b,
-        second: two,
-    } = wanted_at(m, lengths, held.place)
+    let Some(
+        Wanted::Split {
+            a,
+            first: one,
+            b,
+            second: two,
+        },
+    ) = wanted_at(m, lengths, held.place)
     else {
         return Reply::Refused(HEADS_MISMATCH);
     };
-    let new = registers::lowest_free_record(m);
-    if RECORD_COUNT as u8 <= new.0 {
+    let Some(new) = registers::lowest_free_record(m) else {
         return Reply::Refused(NO_RECORD_FOR_FORK);
-    }
+    };
     let x = held.branch(a, one.set, one.place, first);
     let y = held.branch(b, two.set, two.place, second);
     free_and_run(m, e, f, r, x, new, y);
