@@ -1,3 +1,2 @@
-pub mod RowTests
 pub mod OwnRows
 pub mod Shared

@@ -10,7 +10,7 @@ ghost use Rattle.rules.specs.Numbers.{slot_number};
 ghost use Rattle.registers.specs.Registers.{registers_of};
 ghost use Rattle.causes.specs.Own.{any_of};
 
-use registers::{Held, Registers};
+use registers::Registers;
 use rules::{SLOT_COUNT, STACK_DEPTH, Slot};
 
 // 5: fewer stack values than the n needed.
@@ -39,10 +39,7 @@ pub fn over(c: Slot) -> bool
 pub fn empty(held: Registers, c: Slot) -> bool
     ensures { (g : Process) → RegistersWithin g → held ≡ registers_of g → result ≡ empty_of (slot_number c) g }
 {
-    match held.end_in(c) {
-        Held::Empty => true,
-        Held::Holds(_) => false,
-    }
+    held.end_in(c).is_none()
 }
 
 // 8, split and fork: c, a or b is over the last slot's number, or c is empty.
@@ -67,14 +64,14 @@ pub fn wrong_slots(held: Registers, c: Slot, a: Slot, b: Slot) -> bool
 pub fn one_slot(a: Slot, b: Slot) -> bool
     ensures { result ≡ eqb (slot_number a) (slot_number b) }
 {
-    a.0 == b.0
+    a == b
 }
 
 // 8, split: a holds an end and isn't c.
 pub fn taken(held: Registers, a: Slot, c: Slot) -> bool
     ensures { (g : Process) → RegistersWithin g → held ≡ registers_of g → result ≡ taken_of (slot_number a) (slot_number c) g }
 {
-    if a.0 == c.0 {
+    if a == c {
         return false;
     }
     !empty(held, a)

@@ -2,6 +2,7 @@
 -- from what an answer means the answer can be read back. Assumes nothing.
 use mathlib.Core.Path.{◌≡◌, refl, sym, ap, ◌∙◌}
 use mathlib.Core.Option.{Option, none, some}
+use Rattle.std.specs.Prelude.{Option as Maybe, Some, None}
 use mathlib.Core.List.{List}
 use Prim.Native.Nat.{ℕ}
 use lib.ListN.{length}
@@ -13,7 +14,6 @@ use Rattle.code.specs.declared.Instruction.{Instruction}
 use Rattle.code.specs.declared.Instruction.TheVariants.{Cst, Access, Store, Add, Mul, Leq, Put, Get, Split, Fork}
 use Rattle.code.specs.declared.Instruction.TheVariants.{Plug, Close, Halt, Same, Hput, Hcase, Run}
 use Rattle.code.specs.declared.Decoded.{Decoded}
-use Rattle.code.specs.declared.Decoded.TheVariants.{Good, Bad}
 use Rattle.code.specs.Meaning.{instruction_of, meaning}
 use Rattle.code.proofs.Listing.{length_places, length_slots}
 
@@ -42,9 +42,9 @@ case_of (hput c n) = Hput (slot c) n
 case_of (hcase c places) = Hcase (slot c) (length places)
 case_of (run p n listed) = Run p n (length listed)
 
-answer_of : Option rules.Decoded → Decoded
-answer_of none = Bad
-answer_of (some d) = Good (case_of d.instruction) d.next
+answer_of : Option rules.Decoded → Maybe Decoded
+answer_of none = None
+answer_of (some d) = Some (record { instruction = case_of d.instruction; next = d.next })
 
 module _ (code : List ℕ) (place : ℕ) where
   case_back : (i : Instruction) → case_of (instruction_of code place i) ≡ i
@@ -67,10 +67,10 @@ module _ (code : List ℕ) (place : ℕ) where
   case_back (Hcase c k) = ap (λ (n : ℕ). Hcase c n) (length_places code place 3 k)
   case_back (Run p n j) = ap (λ (k : ℕ). Run p n k) (length_slots code place 5 j)
 
-  answer_back : (r : Decoded) → answer_of (meaning code place r) ≡ r
+  answer_back : (r : Maybe Decoded) → answer_of (meaning code place r) ≡ r
   unfolding answer_of
-  answer_back (Good i next) = ap (λ (j : Instruction). Good j next) (case_back i)
-  answer_back Bad = refl
+  answer_back (Some d) = ap (λ (j : Instruction). Some (record { instruction = j; next = d.next })) (case_back d.instruction)
+  answer_back None = refl
 
-  pub determined : (r r' : Decoded) → meaning code place r ≡ meaning code place r' → r ≡ r'
+  pub determined : (r r' : Maybe Decoded) → meaning code place r ≡ meaning code place r' → r ≡ r'
   determined r r' e = sym (answer_back r) ∙ ap answer_of e ∙ answer_back r'

@@ -1,6 +1,6 @@
 -- What the code's answers mean: each case of the enum is an instruction of `rules`, read beside the code that it was decoded from,
--- since the places of an hcase and the slots of a run stay there. Assumes nothing.
-use Rattle.std.specs.Prelude.{ℕ, List}
+-- since the places of an hcase and the slots of a run stay there. `Maybe` is the name here for the Option of the code. Assumes nothing.
+use Rattle.std.specs.Prelude.{ℕ, List, Option as Maybe, Some, None}
 use Rattle.std.proofs.Math.Option.{Option, none, some}
 use Rattle.rules.specs.Numbers.{slot_number}
 use Rattle.rules.specs.Instruction as rules
@@ -9,7 +9,6 @@ use Rattle.code.specs.declared.Instruction.{Instruction}
 use Rattle.code.specs.declared.Instruction.TheVariants.{Cst, Access, Store, Add, Mul, Leq, Put, Get, Split, Fork}
 use Rattle.code.specs.declared.Instruction.TheVariants.{Plug, Close, Halt, Same, Hput, Hcase, Run}
 use Rattle.code.specs.declared.Decoded.{Decoded}
-use Rattle.code.specs.declared.Decoded.TheVariants.{Good, Bad}
 
 -- the instruction that a case stands for, decoded at that place of the code
 abbrev pub instruction_of : (code : List ℕ) (place : ℕ) → Instruction → rules.Instruction
@@ -33,11 +32,11 @@ instruction_of code place (Hcase c k) = rules.hcase (slot_number c) (places_at c
 instruction_of code place (Run p n j) = rules.run p n (slots_at code place 5 j)
 
 -- one instruction with the place after it, or none
-abbrev pub meaning : (code : List ℕ) (place : ℕ) → Decoded → Option rules.Decoded
-meaning code place (Good i next) = some (record { instruction = instruction_of code place i; next = next })
-meaning code place Bad = none
+abbrev pub meaning : (code : List ℕ) (place : ℕ) → Maybe Decoded → Option rules.Decoded
+meaning code place (Some d) = some (record { instruction = instruction_of code place d.instruction; next = d.next })
+meaning code place None = none
 
--- the place where reading goes on: after an instruction, at the same place where there is none
-abbrev pub goes_on : (place : ℕ) → Decoded → ℕ
-goes_on place (Good i next) = next
-goes_on place Bad = place
+-- an instruction at a place, where reading goes on at `after`; or none
+abbrev pub read_to : (code : List ℕ) (place after : ℕ) → Maybe Instruction → Option rules.Decoded
+read_to code place after (Some i) = some (record { instruction = instruction_of code place i; next = after })
+read_to code place after None = none

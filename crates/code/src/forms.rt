@@ -54,71 +54,66 @@ fn plug_at(code: &[u8], place: usize) -> Instruction
 }
 
 // An hcase whose k places would be listed from `listed` on.
-fn hcase_at(code: &[u8], place: usize, listed: usize) -> Decoded
+fn hcase_at(code: &[u8], place: usize, listed: usize) -> Option<Decoded>
     requires { (byte_at code.now place 0 ≡ 0x19) × (listed ≡ place + 3) × (listed ≤ length code.now) }
     ensures { meaning code.now place result ≡ decoded_by_rules code.now place }
 {
     let k = byte_at(code, place, 2);
     if k == 0 {
-        return Decoded::Bad;
+        return None;
     }
     if rules::CASES_LIMIT < k as usize {
-        return Decoded::Bad;
+        return None;
     }
     if code.len() - listed < 2 * (k as usize) {
-        return Decoded::Bad;
+        return None;
     }
-    Decoded::Good(
-        Instruction::Hcase(slot_at(code, place, 1), k),
-        listed + 2 * (k as usize),
-    )
+    Some(Decoded {
+        instruction: Instruction::Hcase(slot_at(code, place, 1), k),
+        next: listed + 2 * (k as usize),
+    })
 }
 
 // A run whose j slots would be listed from `listed` on.
-fn run_at(code: &[u8], place: usize, listed: usize) -> Decoded
+fn run_at(code: &[u8], place: usize, listed: usize) -> Option<Decoded>
     requires { (byte_at code.now place 0 ≡ 0x1A) × (listed ≡ place + 5) × (listed ≤ length code.now) }
     ensures { meaning code.now place result ≡ decoded_by_rules code.now place }
 {
     let j = byte_at(code, place, 4);
     if code.len() - listed < j as usize {
-        return Decoded::Bad;
+        return None;
     }
-    Decoded::Good(
-        Instruction::Run(place_at(code, place, 1), byte_at(code, place, 3), j),
-        listed + j as usize,
-    )
+    Some(Decoded {
+        instruction: Instruction::Run(place_at(code, place, 1), byte_at(code, place, 3), j),
+        next: listed + j as usize,
+    })
 }
 
 // The instruction that begins with this first byte, and whose fixed part ends before `next`.
-pub fn decode_fixed(code: &[u8], place: usize, first: u8, next: usize) -> Decoded
+pub fn decode_fixed(code: &[u8], place: usize, first: u8, next: usize) -> Option<Decoded>
     requires first_byte { first ≡ byte_at code.now place 0 }
     requires next_place { (next ≡ place + size_of (form_of first)) × (next ≤ length code.now) }
     ensures { meaning code.now place result ≡ decoded_by_rules code.now place }
 {
-    match first {
-        0x01 => Decoded::Good(Instruction::Cst(signed_at(code, place, 1)), next),
-        0x02 => Decoded::Good(Instruction::Access(byte_at(code, place, 1)), next),
-        0x03 => Decoded::Good(Instruction::Store, next),
-        0x04 => Decoded::Good(Instruction::Add, next),
-        0x05 => Decoded::Good(Instruction::Mul, next),
-        0x06 => Decoded::Good(Instruction::Leq, next),
-        0x10 => Decoded::Good(Instruction::Put(slot_at(code, place, 1)), next),
-        0x11 => Decoded::Good(Instruction::Get(slot_at(code, place, 1)), next),
-        0x12 => Decoded::Good(split_at(code, place), next),
-        0x13 => Decoded::Good(fork_at(code, place), next),
-        0x14 => Decoded::Good(plug_at(code, place), next),
-        0x15 => Decoded::Good(Instruction::Close(slot_at(code, place, 1)), next),
-        0x16 => Decoded::Good(Instruction::Halt(slot_at(code, place, 1)), next),
-        0x17 => Decoded::Good(
-            Instruction::Same(slot_at(code, place, 1), slot_at(code, place, 2)),
-            next,
-        ),
-        0x18 => Decoded::Good(
-            Instruction::Hput(slot_at(code, place, 1), byte_at(code, place, 2)),
-            next,
-        ),
-        0x19 => hcase_at(code, place, next),
-        0x1A => run_at(code, place, next),
-        _ => Decoded::Bad,
-    }
+    let instruction = match first {
+        0x01 => Instruction::Cst(signed_at(code, place, 1)),
+        0x02 => Instruction::Access(byte_at(code, place, 1)),
+        0x03 => Instruction::Store,
+        0x04 => Instruction::Add,
+        0x05 => Instruction::Mul,
+        0x06 => Instruction::Leq,
+        0x10 => Instruction::Put(slot_at(code, place, 1)),
+        0x11 => Instruction::Get(slot_at(code, place, 1)),
+        0x12 => split_at(code, place),
+        0x13 => fork_at(code, place),
+        0x14 => plug_at(code, place),
+        0x15 => Instruction::Close(slot_at(code, place, 1)),
+        0x16 => Instruction::Halt(slot_at(code, place, 1)),
+        0x17 => Instruction::Same(slot_at(code, place, 1), slot_at(code, place, 2)),
+        0x18 => Instruction::Hput(slot_at(code, place, 1), byte_at(code, place, 2)),
+        0x19 => return hcase_at(code, place, next),
+        0x1A => return run_at(code, place, next),
+        _ => return None,
+    };
+    Some(Decoded { instruction, next })
 }

@@ -1,4 +1,4 @@
-// Document 01's decoder: the code is read forward from a place, and the answer is one instruction with the place after it, or bad (4).
+// Document 01's decoder: the code is read forward from a place, and the answer is one instruction with the place after it, or none (4).
 // What an answer means is in specs/Meaning.antt.
 
 #![tactic(auto)]
@@ -65,25 +65,25 @@ pub enum Instruction {
     Run(u16, u8, u8),
 }
 
+// An instruction, and the place after it.
 #[derive(Clone, Copy)]
-pub enum Decoded {
-    // an instruction, and the place after it
-    Good(Instruction, usize),
-    Bad,
+pub struct Decoded {
+    pub instruction: Instruction,
+    pub next: usize,
 }
 
-// The instruction at a place with the place after it, or bad. The table is the caller's, bound once for many decodes.
-pub fn decode(lengths: &[u8; 256], code: &[u8], place: usize) -> Decoded
+// The instruction at a place with the place after it, if there is one. The table is the caller's, bound once for many decodes.
+pub fn decode(lengths: &[u8; 256], code: &[u8], place: usize) -> Option<Decoded>
     requires { lengths.now ≡ lengths_of_rules }
     ensures { meaning code.now place result ≡ decoded_by_rules code.now place }
 {
     if code.len() <= place {
-        return Decoded::Bad;
+        return None;
     }
     let first = byte_at(code, place, 0);
     let size = fixed_length(lengths, first) as usize;
     if code.len() - place < size {
-        return Decoded::Bad;
+        return None;
     }
     forms::decode_fixed(code, place, first, place + size)
 }

@@ -1,5 +1,6 @@
--- Which item of `rules` an item of the code stands for, and which cell of the state memory holds it. Assumes nothing.
-use Rattle.std.specs.Prelude.{ℕ, ◌/◌, ◌%◌}
+-- Which item of `rules` an item of the code stands for, and which cell of the state memory holds it. `Maybe` is the name here for the Option
+-- of the code. Assumes nothing.
+use Rattle.std.specs.Prelude.{ℕ, ◌/◌, ◌%◌, Option as Maybe, Some, None}
 use Rattle.std.proofs.Math.Option.{Option, none, some}
 use Rattle.std.specs.Int.{w32}
 use Rattle.std.proofs.Common.{to_z}
@@ -11,8 +12,6 @@ use Rattle.rules.specs.Sound.{DatumWithin}
 use Rattle.keeping.proofs.ViewLaws.{LastFits}
 use Rattle.ends.specs.declared.item.Item.{Item}
 use Rattle.ends.specs.declared.item.Item.TheVariants.{Value, Handle, Split, Close, Wait}
-use Rattle.ends.specs.declared.item.Head.{Head}
-use Rattle.ends.specs.declared.item.Head.TheVariants as head
 
 -- the item that an item of the code stands for
 abbrev pub item_of : Item → rules.Item
@@ -22,10 +21,10 @@ item_of (Split p q) = rules.last (rules.split_item (end_number p) (end_number q)
 item_of Close = rules.last rules.close_item
 item_of (Wait r) = rules.last (rules.wait_item (record_number r))
 
--- the head of a queue that a head of the code stands for
-abbrev pub head_in : Head → Option rules.Item
-head_in head.Empty = none
-head_in (head.Item x) = some (item_of x)
+-- the head of a queue, or none, that an answer of the code stands for
+abbrev pub head_in : Maybe Item → Option rules.Item
+head_in None = none
+head_in (Some x) = some (item_of x)
 
 -- the cell of an item
 abbrev pub item_cell : rules.Item → ℕ

@@ -14,13 +14,6 @@ pub enum Item {
     Wait(Record),
 }
 
-// What heads a queue: nothing, or an item.
-#[derive(Clone, Copy)]
-pub enum Head {
-    Empty,
-    Item(Item),
-}
-
 // The cell of an item.
 pub fn cell_of(item: Item) -> u64
     ensures { result ≡ item_cell (item_of item) }
@@ -35,16 +28,16 @@ pub fn cell_of(item: Item) -> u64
 }
 
 // The item of a cell; a cell of another kind has none.
-pub fn item_in(cell: u64) -> Head
+pub fn item_in(cell: u64) -> Option<Item>
     ensures { head_in result ≡ cell_item cell }
 {
     let payload = cell / 256;
     match cell % 256 {
-        1 => Head::Item(Item::Value(((payload % 4294967296) as u32).cast_signed())),
-        2 => Head::Item(Item::Handle((payload % 256) as u8)),
-        3 => Head::Item(Item::Split(End((payload % 256) as u8), End((payload / 256 % 256) as u8))),
-        4 => Head::Item(Item::Close),
-        5 => Head::Item(Item::Wait(Record((payload % 256) as u8))),
-        _ => Head::Empty,
+        1 => Some(Item::Value(((payload % 4294967296) as u32).cast_signed())),
+        2 => Some(Item::Handle((payload % 256) as u8)),
+        3 => Some(Item::Split(End((payload % 256) as u8), End((payload / 256 % 256) as u8))),
+        4 => Some(Item::Close),
+        5 => Some(Item::Wait(Record((payload % 256) as u8))),
+        _ => None,
     }
 }

@@ -10,5 +10,5 @@ mod section;
 pub mod word;
 
 pub use change::{append, free, pair, set_partner, take_head};
-pub use item::{Head, Item};
+pub use item::Item;
 pub use reading::{empty_from, free_word, head, is_free, item_at, partner, queued};

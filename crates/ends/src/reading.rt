@@ -10,7 +10,7 @@ ghost use Rattle.ends.specs.Items.{head_in};
 ghost use Rattle.ends.specs.Sections.{count_in};
 ghost use Rattle.ends.specs.Ends.{EndFits, item_at};
 
-use crate::item::{Head, item_in};
+use crate::item::{Item, item_in};
 use crate::section::{get_cell, get_eight_counts};
 use crate::word::names;
 use rules::offsets::{COUNTS_AT, FREE_AT, PARTNERS_AT};
@@ -50,7 +50,7 @@ pub fn queued(m: &[u8], end: End) -> u8
     get8(m, COUNTS_AT + end.0 as usize)
 }
 
-pub fn head(m: &[u8], end: End) -> Head
+pub fn head(m: &[u8], end: End) -> Option<Item>
     requires { (length m.now ≡ state_size) × (end_number end < end_count) }
     ensures { (st : State) → Sized st → m.now ≡ layout st → EndFits (end_at st (end_number end))
         → head_in result ≡ head_of (end_at st (end_number end)) }
@@ -59,7 +59,7 @@ pub fn head(m: &[u8], end: End) -> Head
 }
 
 // The item at an index of an end's queue, the head at 0; behind the last, none.
-pub fn item_at(m: &[u8], end: End, index: u8) -> Head
+pub fn item_at(m: &[u8], end: End, index: u8) -> Option<Item>
     requires { (length m.now ≡ state_size) × (end_number end < end_count) × (index < queue_depth) }
     ensures { (st : State) → Sized st → m.now ≡ layout st → EndFits (end_at st (end_number end))
         → head_in result ≡ item_at index (end_at st (end_number end)) }

@@ -16,7 +16,7 @@ pub fn count(word: u64) -> u8
     u64::count_ones(word) as u8
 }
 
-// The lowest free end; with none free, the number of ends.
+// The lowest free end; with none free, the number of ends, which is what the C function for the free ends answers then.
 pub fn lowest(word: u64) -> End
     ensures { end_number result ≡ get_or (ends_in word) 0 end_count }
 {

@@ -27,8 +27,9 @@ use Rattle.registers.specs.Registers.{registers_of, registers_in, moved_to}
 use Rattle.registers.proofs.Fields.{by_fields}
 use Rattle.code.proofs.Listing.{length_places, listed_place}
 use Rattle.stepping.proofs.Steps.{Loads, loaded}
+use Rattle.std.specs.Prelude.{Option as Maybe, Some}
 use Rattle.meetings.specs.declared.wanted.Wanted.{Wanted as Answer}
-use Rattle.meetings.specs.declared.wanted.Wanted.TheVariants.{Nothing, Value as Value', Handle, Split}
+use Rattle.meetings.specs.declared.wanted.Wanted.TheVariants.{Value as Value', Handle, Split}
 use Rattle.meetings.specs.Heads.{DatumWaits}
 use Rattle.meetings.specs.Wanted.{wanted_by, wanted_of}
 use Rattle.meetings.specs.contracts.wanted.Wanted.{the_type}
@@ -139,13 +140,13 @@ module _ (st : State) (r : ℕ) (w : Waits st r) where
 -- ---- what the code found out
 
 -- the registers that were loaded are those of the waiting record, and the answer on their place is right
-pub record Found (st : State) (r : ℕ) (x : Registers) (answer : Answer) : Type 0 where
+pub record Found (st : State) (r : ℕ) (x : Registers) (answer : Maybe Answer) : Type 0 where
   pub waits : Waits st r
   pub loaded : x ≡ registers_of waits.held
   pub wanted_is : wanted_at st.code waits.held.place ≡ wanted_of st.code waits.held.place answer
 
 pub found : (m : List ℕ) → SoundMemory m → (to r : ℕ) → head_of (end_at (view m) to) ≡ some (last (wait_item r))
-    → (x : Registers) (answer : Answer)
+    → (x : Registers) (answer : Maybe Answer)
     → Loads m r x → wanted_of (view m).code x.place answer ≡ wanted_at (view m).code x.place → Found (view m) r x answer
 found m s to r h x answer f q =
     let w = waits_there m s to r h in
@@ -158,7 +159,7 @@ found m s to r h x answer f q =
           sym (subst (λ (p : ℕ). wanted_of (view m).code p answer ≡ wanted_at (view m).code p) here q);
     }
 
-module _ (st : State) (r : ℕ) {x : Registers} {answer : Answer} (f : Found st r x answer) where
+module _ (st : State) (r : ℕ) {x : Registers} {answer : Maybe Answer} (f : Found st r x answer) where
   pub datum_found : (from to : ℕ) (d : Datum) → datum_against from to r d (waiter_in st.code (record_at st r))
       ≡ datum_for from to r d f.waits.held (wanted_of st.code f.waits.held.place answer)
   datum_found from to d =
@@ -171,28 +172,25 @@ module _ (st : State) (r : ℕ) {x : Registers} {answer : Answer} (f : Found st 
 
 -- ---- each datum against each answer
 
--- where the answer is another than the one that the code tests for, known by its tag, nothing matches
+-- where another thing is wanted than the code tests for, known by its tag, nothing matches
 module _ (code : List ℕ) (place : ℕ) (g : Process) where
-  pub no_value_wanted : (answer : Answer) → OneOf (0 ∷ 2 ∷ 3 ∷ []) (tag_of the_type answer) → (from to r : ℕ) (v : Value)
-      → datum_for from to r (value v) g (wanted_of code place answer) ≡ mismatch
-  no_value_wanted Nothing h from to r v = refl
-  no_value_wanted (Value' next) h from to r v = absurd (miss (0 ∷ 2 ∷ 3 ∷ []) 1 tt h)
+  pub no_value_wanted : (answer : Answer) → OneOf (1 ∷ 2 ∷ []) (tag_of the_type answer) → (from to r : ℕ) (v : Value)
+      → datum_for from to r (value v) g (wanted_of code place (Some answer)) ≡ mismatch
+  no_value_wanted (Value' next) h from to r v = absurd (miss (1 ∷ 2 ∷ []) 0 tt h)
   no_value_wanted (Handle k) h from to r v = refl
   no_value_wanted (Split a first b second) h from to r v = refl
 
-  pub no_handle_wanted : (answer : Answer) → OneOf (0 ∷ 1 ∷ 3 ∷ []) (tag_of the_type answer) → (from to r n : ℕ)
-      → datum_for from to r (handle n) g (wanted_of code place answer) ≡ mismatch
-  no_handle_wanted Nothing h from to r n = refl
+  pub no_handle_wanted : (answer : Answer) → OneOf (0 ∷ 2 ∷ []) (tag_of the_type answer) → (from to r n : ℕ)
+      → datum_for from to r (handle n) g (wanted_of code place (Some answer)) ≡ mismatch
   no_handle_wanted (Value' next) h from to r n = refl
-  no_handle_wanted (Handle k) h from to r n = absurd (miss (0 ∷ 1 ∷ 3 ∷ []) 2 tt h)
+  no_handle_wanted (Handle k) h from to r n = absurd (miss (0 ∷ 2 ∷ []) 1 tt h)
   no_handle_wanted (Split a first b second) h from to r n = refl
 
-  pub no_split_wanted : (answer : Answer) → OneOf (0 ∷ 1 ∷ 2 ∷ []) (tag_of the_type answer) → (first second r : ℕ)
-      → split_for first second r g (wanted_of code place answer) ≡ mismatch
-  no_split_wanted Nothing h first second r = refl
+  pub no_split_wanted : (answer : Answer) → OneOf (0 ∷ 1 ∷ []) (tag_of the_type answer) → (first second r : ℕ)
+      → split_for first second r g (wanted_of code place (Some answer)) ≡ mismatch
   no_split_wanted (Value' next) h first second r = refl
   no_split_wanted (Handle k) h first second r = refl
-  no_split_wanted (Split a one b two) h first second r = absurd (miss (0 ∷ 1 ∷ 2 ∷ []) 3 tt h)
+  no_split_wanted (Split a one b two) h first second r = absurd (miss (0 ∷ 1 ∷ []) 2 tt h)
 
   -- a handle below the number of places goes on at its place, one that is not does not match
   pub handle_below : (from to r n k : ℕ) {p : ℕ} → n < k → p ≡ place_at code place (3 + 2 * n)

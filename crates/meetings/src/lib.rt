@@ -16,7 +16,7 @@ ghost use Rattle.keeping.specs.Demand3.{SoundMemory};
 ghost use Rattle.ends.specs.Items.{item_of};
 ghost use Rattle.meetings.specs.Stepped.{Met, EndStepped};
 
-use ends::{Head, Item};
+use ends::Item;
 use heads::{Meeting, meeting_of};
 use rules::{END_COUNT, End, Refusal};
 
@@ -62,10 +62,10 @@ pub fn step_end(m: &mut [u8], lengths: &[u8; 256], end: u32) -> Result<(), Refus
         return Err(Refusal::NoEnd);
     }
     let f = ends::partner(m, e);
-    let Head::Item(x) = ends::head(m, e) else {
+    let Some(x) = ends::head(m, e) else {
         return Err(Refusal::QueueEmpty);
     };
-    let Head::Item(y) = ends::head(m, f) else {
+    let Some(y) = ends::head(m, f) else {
         return Err(Refusal::QueueEmpty);
     };
     meet(m, lengths, e, f, x, y)

@@ -17,7 +17,7 @@ ghost use Rattle.meetings.specs.Stepped.{Met, DatumMet, SplitMet};
 use crate::heads::Datum;
 use crate::wanted::{Wanted, wanted_at};
 use registers::Registers;
-use rules::{End, RECORD_COUNT, Record, Refusal};
+use rules::{End, Record, Refusal};
 
 // Both heads are removed, and record r runs with these registers.
 fn take_both(m: &mut [u8], from: End, to: End, r: Record, x: Registers)
@@ -48,7 +48,7 @@ fn deliver_value(
     ensures { DatumMet m.old (end_number from) (end_number to) (record_number r) (value v) result m.new }
 {
     let held = registers::load(m, r);
-    let Wanted::Value(next) = wanted_at(m, lengths, held.place) else {
+    let Some(Wanted::Value(next)) = wanted_at(m, lengths, held.place) else {
         return Err(Refusal::HeadsMismatch);
     };
     let pushed = held.push(v);
@@ -70,7 +70,7 @@ fn deliver_handle(
     ensures { DatumMet m.old (end_number from) (end_number to) (record_number r) (handle n) result m.new }
 {
     let held = registers::load(m, r);
-    let Wanted::Handle(k) = wanted_at(m, lengths, held.place) else {
+    let Some(Wanted::Handle(k)) = wanted_at(m, lengths, held.place) else {
         return Err(Refusal::HeadsMismatch);
     };
     if k <= n {
@@ -143,19 +143,20 @@ pub fn divide(
         result m.new }
 {
     let held = registers::load(m, r);
-    let Wanted::Split {
-        a,
-        first: one,
-        b,
-        second: two,
-    } = wanted_at(m, lengths, held.place)
+    let Some(
+        Wanted::Split {
+            a,
+            first: one,
+            b,
+            second: two,
+        },
+    ) = wanted_at(m, lengths, held.place)
     else {
         return Err(Refusal::HeadsMismatch);
     };
-    let new = registers::lowest_free_record(m);
-    if RECORD_COUNT as u8 <= new.0 {
+    let Some(new) = registers::lowest_free_record(m) else {
         return Err(Refusal::NoRecordForFork);
-    }
+    };
     let x = held.branch(a, one.set, one.place, first);
     let y = held.branch(b, two.set, two.place, second);
     free_and_run(m, e, f, r, x, new, y);

@@ -8,12 +8,11 @@ ghost use Rattle.keeping.specs.Demand3.{SoundMemory};
 ghost use Rattle.code.specs.Meaning.{instruction_of};
 ghost use Rattle.meetings.specs.Wanted.{wanted_by, wanted_of};
 
-use code::{Branch, Decoded, Instruction};
+use code::{Branch, Instruction};
 use rules::Slot;
 
 #[derive(Clone, Copy)]
 pub enum Wanted {
-    Nothing,
     // a value; the record then goes on at this place
     Value(u16),
     // a handle below this number; the places stay in the code
@@ -27,38 +26,36 @@ pub enum Wanted {
     },
 }
 
-// What a record wants that waits at an instruction, with the place after it.
-fn wanted_by(instruction: Instruction, next: u16) -> Wanted
+// What a record wants that waits at an instruction, with the place after it, if one waits there.
+fn wanted_by(instruction: Instruction, next: u16) -> Option<Wanted>
     ensures { (code : List ℕ) (place : ℕ)
         → wanted_of code place result ≡ wanted_by (wait_of (instruction_of code place instruction) next) }
 {
     match instruction {
-        Instruction::Get(_) => Wanted::Value(next),
-        Instruction::Hcase(_, k) => Wanted::Handle(k),
+        Instruction::Get(_) => Some(Wanted::Value(next)),
+        Instruction::Hcase(_, k) => Some(Wanted::Handle(k)),
         Instruction::Fork {
             c: _,
             a,
             first,
             b,
             second,
-        } => Wanted::Split {
+        } => Some(Wanted::Split {
             a,
             first,
             b,
             second,
-        },
-        _ => Wanted::Nothing,
+        }),
+        _ => None,
     }
 }
 
-// What a record wants that waits at a place.
-pub fn wanted_at(m: &[u8], lengths: &[u8; 256], place: u16) -> Wanted
+// What a record wants that waits at a place, if one waits there.
+pub fn wanted_at(m: &[u8], lengths: &[u8; 256], place: u16) -> Option<Wanted>
     requires { SoundMemory m.now × (lengths.now ≡ lengths_of_rules) }
     ensures { wanted_of (view m.now).code place result
         ≡ wanted_by (decoded_wait (decoded_by_rules (view m.now).code place)) }
 {
-    match code::decode(lengths, stepping::code(m), place as usize) {
-        Decoded::Good(instruction, next) => wanted_by(instruction, next as u16),
-        Decoded::Bad => Wanted::Nothing,
-    }
+    let decoded = code::decode(lengths, stepping::code(m), place as usize)?;
+    wanted_by(decoded.instruction, decoded.next as u16)
 }

@@ -1,7 +1,7 @@
 -- Which registers of `rules` the registers of the code stand for, and what the code's methods make of them. `Process` is the name here for
--- the registers of `rules`: a place, two lists of values and a list of slots. The code has the same in arrays of fixed length.
--- Assumes nothing.
-use Rattle.std.specs.Prelude.{ℕ, ◌+◌, ◌*◌, List, ◌∷◌, map, reverse, length, take, drop, pos}
+-- the registers of `rules`: a place, two lists of values and a list of slots. The code has the same in arrays of fixed length. `Maybe` is the
+-- name here for the Option of the code. Assumes nothing.
+use Rattle.std.specs.Prelude.{ℕ, ◌+◌, ◌*◌, List, ◌∷◌, map, reverse, length, take, drop, pos, Option as Maybe, Some, None}
 use Rattle.std.proofs.Math.Option.{Option, none, some}
 use Rattle.std.specs.Int.{w32}
 use Rattle.std.proofs.Common.{to_z}
@@ -11,10 +11,10 @@ use Rattle.rules.specs.State.{Value, Registers as Process, registers, RecordStat
 use Rattle.rules.specs.Slots.{Slots, callee_slots}
 use Rattle.rules.specs.Causes.{top}
 use Rattle.rules.specs.Layout.{value_size, optional, no_registers}
-use Rattle.rules.specs.Numbers.{end_number}
+use Rattle.rules.specs.Numbers.{end_number, record_number}
+use Rattle.rules.specs.declared.End.{End}
+use Rattle.rules.specs.declared.Record.{Record}
 use Rattle.registers.specs.declared.Registers.{Registers}
-use Rattle.registers.specs.declared.process.Held.{Held}
-use Rattle.registers.specs.declared.process.Held.TheVariants.{Empty, Holds}
 use Rattle.registers.specs.declared.records.Status.{Status}
 use Rattle.registers.specs.declared.records.Status.TheVariants.{Free, Running, Waiting}
 
@@ -60,9 +60,14 @@ status_byte Running = 1
 status_byte Waiting = 2
 
 -- what a local slot stands for: no end, or this one
-abbrev pub held_end : Held → Option ℕ
-held_end Empty = none
-held_end (Holds e) = some (end_number e)
+abbrev pub end_of : Maybe End → Option ℕ
+end_of None = none
+end_of (Some e) = some (end_number e)
+
+-- the record's number; without a record, n
+abbrev pub record_or : (n : ℕ) → Maybe Record → ℕ
+record_or n None = n
+record_or n (Some r) = record_number r
 
 -- ---- changes, in the words of a step of a record
 

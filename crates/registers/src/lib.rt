@@ -13,7 +13,7 @@ mod slots;
 mod values;
 
 pub use listed::{any_over, any_repeated};
-pub use process::{Held, Popped};
+pub use process::Popped;
 pub use records::{
     Status, clear, environment_value, load, lowest_free_record, place_of, save_running,
     save_waiting, status_of,

@@ -10,17 +10,10 @@ ghost use Rattle.rules.specs.RecordStep.{branch};
 ghost use Rattle.rules.specs.Layout.{optional};
 ghost use Rattle.rules.specs.Numbers.{slot_number, end_number};
 ghost use Rattle.registers.specs.Registers.{registers_of, pushed, popped, stored, combined, moved_to, with_slots, passed, called};
-ghost use Rattle.registers.specs.Registers.{held_end};
+ghost use Rattle.registers.specs.Registers.{end_of};
 
 use crate::{Registers, listed, slots, values};
 use rules::{ENVIRONMENT_DEPTH, End, STACK_DEPTH, Slot};
-
-// What a local slot stands for: an end, or none.
-#[derive(Clone, Copy)]
-pub enum Held {
-    Empty,
-    Holds(End),
-}
 
 // The top value and the registers without it.
 #[derive(Clone, Copy)]
@@ -114,16 +107,16 @@ impl Registers {
         self
     }
 
-    // What local slot c stands for.
-    pub fn end_in(self, c: Slot) -> Held
-        ensures { (g : Process) → length g.slots ≡ slot_count → self ≡ registers_of g → held_end result ≡ slot_at g (slot_number c) }
+    // The end that local slot c stands for, if it stands for one.
+    pub fn end_in(self, c: Slot) -> Option<End>
+        ensures { (g : Process) → length g.slots ≡ slot_count → self ≡ registers_of g → end_of result ≡ slot_at g (slot_number c) }
     {
         let held = self.slots;
         let x = slots::at(held, c);
         if x == 0 {
-            return Held::Empty;
+            return None;
         }
-        Held::Holds(End(x - 1))
+        Some(End(x - 1))
     }
 
     // Slot c is put anew: x is 0 for an empty slot, else an end's number and one.

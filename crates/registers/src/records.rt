@@ -1,15 +1,16 @@
 // The process records in the lent state memory. Each contract speaks of every state st whose layout the memory holds: an answer is read
 // off st, and a write makes the memory the layout of st with that record anew, so that all other bytes stay.
-ghost use Rattle.std.specs.Prelude.{◌≡◌, [], ◌∷◌, ◌++◌, ◌+◌, ◌*◌, ◌≤◌, ◌<◌, pos, length, get_or};
+ghost use Rattle.std.specs.Prelude.{◌≡◌, [], ◌∷◌, ◌++◌, ◌+◌, ◌*◌, ◌≤◌, ◌<◌, pos, length, get_or, IfSome};
 ghost use Rattle.rules.specs.Limits.{record_count, environment_depth};
 ghost use Rattle.rules.specs.Bytes.{bytes_of};
-ghost use Rattle.rules.specs.State.{State, Registers as Process, free_record, running, waiting, record_at, set_record, lowest_free_record};
+ghost use Rattle.rules.specs.State.{State, Registers as Process, free_record, running, waiting, record_at, set_record};
+ghost use Rattle.rules.specs.State.{is_free_record, lowest_free_record};
 ghost use Rattle.rules.specs.Layout.{record_size, records_at, state_size, registers_bytes, layout};
 ghost use Rattle.rules.specs.Sound.{RecordWithin};
 ghost use Rattle.rules.specs.Numbers.{record_number};
 ghost use Rattle.words.specs.Parts.{put_at};
 ghost use Rattle.keeping.proofs.LayoutLaws.{Sized};
-ghost use Rattle.registers.specs.Registers.{registers_of, registers_in, status_of, status_byte};
+ghost use Rattle.registers.specs.Registers.{registers_of, registers_in, status_of, status_byte, record_or};
 
 use crate::{Registers, slots, values};
 use rules::offsets::{
@@ -170,17 +171,21 @@ pub fn clear(m: &mut [u8], r: Record)
     words::copy(&zeros, m, start_of(r));
 }
 
-// The lowest free record; with none free, the number of records.
-pub fn lowest_free_record(m: &[u8]) -> Record
-    requires { length m.now ≡ state_size }
-    ensures { (st : State) → Sized st → m.now ≡ layout st → record_number result ≡ lowest_free_record st }
+// Record r is free.
+fn is_free(m: &[u8], r: Record) -> bool
+    requires { (length m.now ≡ state_size) × (record_number r < record_count) }
+    ensures { (st : State) → Sized st → m.now ≡ layout st → result ≡ is_free_record (record_at st (record_number r)) }
 {
-    let mut k = 0;
-    while k < RECORD_COUNT as u8 {
-        if let Status::Free = status_of(m, Record(k)) {
-            return Record(k);
-        }
-        k += 1;
-    }
-    Record(RECORD_COUNT as u8)
+    matches!(status_of(m, r), Status::Free)
+}
+
+// The lowest free record, if one is free.
+pub fn lowest_free_record(m: &[u8]) -> Option<Record>
+    requires { length m.now ≡ state_size }
+    ensures within { IfSome result (λ r. record_number r < record_count) }
+    ensures lowest { (st : State) → Sized st → m.now ≡ layout st → record_or record_count result ≡ lowest_free_record st }
+{
+    (0..RECORD_COUNT as u8)
+        .find(|k| is_free(m, Record(*k)))
+        .map(Record)
 }

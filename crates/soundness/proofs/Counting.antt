@@ -14,8 +14,6 @@ use Rattle.rules.specs.State.{Last, split_item, close_item, wait_item}
 use Rattle.rules.specs.Count.{δ, total}
 use Rattle.rules.specs.Sound.{in_slot, in_last, named_by_last}
 use Rattle.rules.proofs.CountLaws.{δ-same, δ-ne, δ-le}
-use Rattle.soundness.specs.declared.lasts.Last.{Last as Kept}
-use Rattle.soundness.specs.Lasts.{last_meaning}
 use Rattle.soundness.specs.Counts.{Below, Added, Counted}
 
 -- ---- sums
@@ -69,11 +67,6 @@ name_few r (some (wait_item k)) = δ-le r k
 
 pub added_none : (n : ℕ) (f : ℕ → ℕ) (l : List ℕ) → ((k : ℕ) → f k ≡ 0) → Added n f l l
 added_none n f l z = record { added = λ k h. omega (arith, z k) }
-
--- a last item that counts for nothing, once the code knows which it is
-pub added_nothing : (n : ℕ) (f : ℕ → Option Last → ℕ) (l : List ℕ) {last x : Kept} → last ≡ x → ((k : ℕ) → f k (last_meaning x) ≡ 0)
-    → Added n (λ (k : ℕ). f k (last_meaning last)) l l
-added_nothing n f l is z = record { added = λ k h. omega (arith, ap (λ (y : Kept). f k (last_meaning y)) is, z k) }
 
 pub added_one : (n at : ℕ) (l : List ℕ) {l' : List ℕ} → length l ≡ n → at < n → l' ≡ set l at (get_or l at 0 + 1)
     → Added n (λ (k : ℕ). δ k at) l l'

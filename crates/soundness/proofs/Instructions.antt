@@ -2,7 +2,6 @@
 -- Assumes nothing.
 use mathlib.Core.Path.{◌≡◌, refl, sym, ap, ◌∙◌, subst}
 use mathlib.Core.Bool.{Bool, true, false}
-use mathlib.Core.Option.{Option}
 use mathlib.Core.List.{List, [], ◌∷◌}
 use Prim.Native.Nat.{ℕ, ◌≤◌}
 use native.Mathlib.Omega.{arith}
@@ -33,16 +32,17 @@ use Rattle.code.specs.declared.Branch.{Branch}
 use Rattle.code.specs.declared.Decoded.{Decoded}
 use Rattle.code.specs.Meaning.{instruction_of, meaning}
 use Rattle.code.specs.contracts.Instruction as coded
-use Rattle.registers.specs.declared.process.Held.{Held}
 use Rattle.registers.specs.declared.records.Status.{Status}
 use Rattle.registers.specs.declared.records.Status.TheVariants.{Waiting}
-use Rattle.registers.specs.Registers.{registers_in, status_of, held_end}
+use Rattle.registers.specs.Registers.{registers_in, status_of}
 use Rattle.registers.specs.contracts.records.Status as status
 use Rattle.causes.specs.Own.{rows_reply, own_reply}
 use Rattle.canonical.specs.Canonical.{code_length, canonical_code, canonical_bytes}
 use Rattle.canonical.proofs.Memory.{canonical_from}
+use Rattle.std.specs.Prelude.{Option as Maybe, Some, None}
 use Rattle.soundness.specs.declared.lasts.Last.{Last}
-use Rattle.soundness.specs.declared.lasts.Last.TheVariants.{Wait}
+use Rattle.soundness.specs.declared.lasts.Last.TheVariants as last
+use Rattle.soundness.specs.contracts.lasts.Last as lasts
 use Rattle.soundness.specs.Lasts.{last_meaning}
 
 -- ---- a memory that passed S1
@@ -60,11 +60,6 @@ module _ (m : List ℕ) (b : Bytes m) (l : length m ≡ state_size) (t : canonic
 pub code_short : (m : List ℕ) → canonical_bytes m ≡ true → code_length m ≤ code_limit
 unfolding canonical_bytes canonical_code
 code_short m t = leb-true (code_length m) code_limit (left_of _ _ (all_true_read _ t).0)
-
--- ---- what a slot holds
-
-pub slot_names : {h : Held} {o : Option ℕ} (x : Held) (e : ℕ) → held_end h ≡ o → h ≡ x → names (held_end x) e ≡ names o e
-slot_names x e s k = ap (λ (y : Held). names (held_end y) e) (sym k) ∙ ap (λ (y : Option ℕ). names y e) s
 
 -- ---- the own causes
 
@@ -159,13 +154,13 @@ module _ (code : List ℕ) (e : ℕ) (x : RecordState) {s : Status} (told : s �
     waiting_within r = subst RecordWithin (waiting_is x told w) r
 
     -- it does what was decoded
-    pub stands_decoded_lem : {part : List ℕ} {place : ℕ} {d d' : Decoded} → part ≡ code → place ≡ (registers_in x).place
+    pub stands_decoded_lem : {part : List ℕ} {place : ℕ} {d d' : Maybe Decoded} → part ≡ code → place ≡ (registers_in x).place
         → meaning part place d ≡ rules.decode part place → d ≡ d'
         → stands_decoded e (registers_in x) (meaning part place d') ≡ stands_in code e x
     unfolding stands_in
     stands_decoded_lem {part = part} {place = place} p q r k =
         let g = registers_in x in
-        ap (λ (y : Decoded). stands_decoded e g (meaning part place y)) (sym k)
+        ap (λ (y : Maybe Decoded). stands_decoded e g (meaning part place y)) (sym k)
         ∙ ap (stands_decoded e g) r
         ∙ (λ i. stands_decoded e g (rules.decode (p i) (q i)))
         ∙ sym (ap (stands_in code e) (waiting_is x told w))
@@ -173,13 +168,25 @@ module _ (code : List ℕ) (e : ℕ) (x : RecordState) {s : Status} (told : s �
 -- ---- an end
 
 -- the test of an end, from its queue's last item
-pub last_is : (st : State) (e : ℕ) {l : Last} (j : Last) → last_meaning l ≡ last_of (end_at st e) → l ≡ j
+pub last_is : (st : State) (e : ℕ) {l : Maybe Last} (j : Maybe Last) → last_meaning l ≡ last_of (end_at st e) → l ≡ j
     → stands_last st e (last_meaning j) ≡ stands_test st e
 unfolding stands_test
-last_is st e j t k = ap (λ (y : Last). stands_last st e (last_meaning y)) (sym k) ∙ ap (stands_last st e) t
+last_is st e j t k = ap (λ (y : Maybe Last). stands_last st e (last_meaning y)) (sym k) ∙ ap (stands_last st e) t
+
+-- no last item, or one that is no wait
+pub no_last : (st : State) (e : ℕ) {l : Maybe Last} → last_meaning l ≡ last_of (end_at st e) → l ≡ None → true ≡ stands_test st e
+unfolding stands_last
+no_last st e t k = last_is st e None t k
+
+pub no_wait : (st : State) (e : ℕ) (x : Last) → last_meaning (Some x) ≡ last_of (end_at st e)
+    → OneOf (0 ∷ 1 ∷ []) (tag_of lasts.the_type x) → true ≡ stands_test st e
+unfolding stands_last
+no_wait st e (last.Split p q) t other = last_is st e (Some (last.Split p q)) t refl
+no_wait st e last.Close t other = last_is st e (Some last.Close) t refl
+no_wait st e (last.Wait r) t other = absurd (miss (0 ∷ 1 ∷ []) 2 tt other)
 
 -- a wait: the record that it names was asked
-pub last_waits : (st : State) (e : ℕ) {l : Last} {r : Record} {b : Bool} → b ≡ stands_in st.code e (record_at st (record_number r))
-    → last_meaning l ≡ last_of (end_at st e) → l ≡ Wait r → b ≡ stands_test st e
+pub last_waits : (st : State) (e : ℕ) {l : Maybe Last} {r : Record} {b : Bool} → b ≡ stands_in st.code e (record_at st (record_number r))
+    → last_meaning l ≡ last_of (end_at st e) → l ≡ Some (last.Wait r) → b ≡ stands_test st e
 unfolding stands_last
-last_waits st e {r = r} q t k = q ∙ last_is st e (Wait r) t k
+last_waits st e {r = r} q t k = q ∙ last_is st e (Some (last.Wait r)) t k

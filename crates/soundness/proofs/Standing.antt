@@ -24,6 +24,7 @@ use Rattle.rules.proofs.TestLaws.{every_at, left_of, right_of, all_true_read}
 use Rattle.canonical.specs.Canonical.{part, free_in, slots_from, stack_from, slot_fits, canonical_registers, canonical_record, record_part}
 use Rattle.canonical.specs.Canonical.{record_test, end_test, canonical_bytes}
 use Rattle.canonical.proofs.Shown.{records_shown, record_shown, ends_shown}
+use Rattle.std.specs.Prelude.{Option as Maybe, Some}
 use Rattle.soundness.specs.declared.lasts.Last.{Last}
 use Rattle.soundness.specs.declared.lasts.Last.TheVariants.{Split}
 use Rattle.soundness.specs.Lasts.{last_meaning}
@@ -188,14 +189,14 @@ end_canonical m t e h = every_at (end_test m) end_count (all_true_read _ t).1.1.
 
 -- ---- a last item, as the code has it
 
-module _ {l : Last} {p q : End} (is : l ≡ Split p q) where
+module _ {l : Maybe Last} {p q : End} (is : l ≡ Some (Split p q)) where
   pub split_within : last_within (last_meaning l) ≡ true → (end_number p < end_count) × (end_number q < end_count)
   unfolding last_within
   split_within w =
-      let t = ap (λ (x : Last). last_within (last_meaning x)) (sym is) ∙ w in
+      let t = ap (λ (x : Maybe Last). last_within (last_meaning x)) (sym is) ∙ w in
       let a = ltb (end_number p) end_count in
       let b = ltb (end_number q) end_count in
       (ltb-true (end_number p) end_count (left_of a b t), ltb-true (end_number q) end_count (right_of a b t))
 
   pub split_counts : {a b : ℕ} → a ≡ end_number p → b ≡ end_number q → (e : ℕ) → δ e a + δ e b ≡ in_last e (last_meaning l)
-  split_counts c d e = (λ i. δ e (c i) + δ e (d i)) ∙ sym (ap (λ (x : Last). in_last e (last_meaning x)) is)
+  split_counts c d e = (λ i. δ e (c i) + δ e (d i)) ∙ sym (ap (λ (x : Maybe Last). in_last e (last_meaning x)) is)

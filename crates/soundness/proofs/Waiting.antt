@@ -18,6 +18,7 @@ use Rattle.rules.specs.SoundTest.{last_within, waits_test}
 use Rattle.rules.specs.Layout.{record_size, records_at, view_registers, view_status, view_record, view}
 use Rattle.canonical.specs.Canonical.{record_part}
 use Rattle.canonical.proofs.Shown.{record_shown}
+use Rattle.std.specs.Prelude.{Option as Maybe, Some}
 use Rattle.soundness.specs.declared.lasts.Last.{Last}
 use Rattle.soundness.specs.declared.lasts.Last.TheVariants.{Wait}
 use Rattle.soundness.specs.Lasts.{last_meaning}
@@ -26,13 +27,13 @@ use Rattle.soundness.proofs.Standing.{lasts_more, lasts_all}
 
 -- ---- a last item, as the code has it
 
-module _ {l : Last} {r : Record} (is : l ≡ Wait r) where
+module _ {l : Maybe Last} {r : Record} (is : l ≡ Some (Wait r)) where
   pub wait_within : last_within (last_meaning l) ≡ true → record_number r < record_count
   unfolding last_within
-  wait_within w = ltb-true (record_number r) record_count (ap (λ (x : Last). last_within (last_meaning x)) (sym is) ∙ w)
+  wait_within w = ltb-true (record_number r) record_count (ap (λ (x : Maybe Last). last_within (last_meaning x)) (sym is) ∙ w)
 
   pub wait_names : {a : ℕ} → a ≡ record_number r → (k : ℕ) → δ k a ≡ named_by_last k (last_meaning l)
-  wait_names c k = ap (δ k) c ∙ sym (ap (λ (x : Last). named_by_last k (last_meaning x)) is)
+  wait_names c k = ap (δ k) c ∙ sym (ap (λ (x : Maybe Last). named_by_last k (last_meaning x)) is)
 
 -- ---- a memory
 

@@ -1,5 +1,5 @@
--- What the code's answer to "the last item of a queue" means. Assumes nothing.
-use Rattle.std.specs.Prelude.{ℕ, Bool, true, [], ◌∷◌}
+-- What the code's answer to "the last item of a queue" means. `Maybe` is the name here for the Option of the code. Assumes nothing.
+use Rattle.std.specs.Prelude.{ℕ, Bool, true, [], ◌∷◌, Option as Maybe, Some, None}
 use Rattle.std.proofs.Math.Option.{Option, none, some}
 use Rattle.rules.specs.State as rules
 use Rattle.rules.specs.State.{split_item, close_item, wait_item}
@@ -7,14 +7,14 @@ use Rattle.rules.specs.Numbers.{end_number, record_number}
 use Rattle.rules.specs.Layout.{view_cells}
 use Rattle.canonical.specs.Canonical.{either, is_datum, is_last}
 use Rattle.soundness.specs.declared.lasts.Last.{Last}
-use Rattle.soundness.specs.declared.lasts.Last.TheVariants.{Nothing, Split, Close, Wait}
+use Rattle.soundness.specs.declared.lasts.Last.TheVariants.{Split, Close, Wait}
 
 -- the last item that stands only last, if there is one
-abbrev pub last_meaning : Last → Option rules.Last
-last_meaning Nothing = none
-last_meaning (Split p q) = some (split_item (end_number p) (end_number q))
-last_meaning Close = some close_item
-last_meaning (Wait r) = some (wait_item (record_number r))
+abbrev pub last_meaning : Maybe Last → Option rules.Last
+last_meaning None = none
+last_meaning (Some (Split p q)) = some (split_item (end_number p) (end_number q))
+last_meaning (Some Close) = some close_item
+last_meaning (Some (Wait r)) = some (wait_item (record_number r))
 
 -- a cell holds an item
 unfoldable pub is_item : (cell : ℕ) → Bool

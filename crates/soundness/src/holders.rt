@@ -70,18 +70,13 @@ fn held_counts(m: &[u8]) -> [u16; END_COUNT]
 }
 
 // A split carries its two ends.
-fn count_carried(counts: &mut [u16], last: Last)
+fn count_carried(counts: &mut [u16], last: Option<Last>)
     requires { (length counts.old ≡ end_count) × (last_within (last_meaning last) ≡ true) × Below places_in_all counts.old }
     ensures { Added end_count (λ (e : ℕ). in_last e (last_meaning last)) counts.old counts.new }
 {
-    match last {
-        Last::Nothing => {}
-        Last::Split(p, q) => {
-            add_one(counts, usize::from(p.0));
-            add_one(counts, usize::from(q.0));
-        }
-        Last::Close => {}
-        Last::Wait(_) => {}
+    if let Some(Last::Split(p, q)) = last {
+        add_one(counts, usize::from(p.0));
+        add_one(counts, usize::from(q.0));
     }
 }
 
@@ -100,14 +95,12 @@ fn standing_counts(m: &[u8]) -> [u16; END_COUNT]
 }
 
 // An end is given up exactly when the last item of its own queue is a close or a split.
-fn given_up(last: Last) -> u16
+fn given_up(last: Option<Last>) -> u16
     ensures { result ≡ gives_up (last_meaning last) }
 {
     match last {
-        Last::Nothing => 0,
-        Last::Split(_, _) => 1,
-        Last::Close => 1,
-        Last::Wait(_) => 0,
+        Some(Last::Split(_, _) | Last::Close) => 1,
+        Some(Last::Wait(_)) | None => 0,
     }
 }
 

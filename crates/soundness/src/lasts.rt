@@ -13,7 +13,6 @@ use words::get64;
 
 #[derive(Clone, Copy)]
 pub enum Last {
-    Nothing,
     Split(End, End),
     Close,
     Wait(Record),
@@ -27,28 +26,28 @@ fn narrow(n: u64) -> u8
 }
 
 // What a queue's last cell says.
-fn last_in(cell: u64) -> Last
+fn last_in(cell: u64) -> Option<Last>
     requires { is_item cell ≡ true }
     ensures is { last_meaning result ≡ last_in cell }
     ensures within { last_within (last_meaning result) ≡ true }
 {
     let payload = cell / 256;
     match cell % 256 {
-        3 => Last::Split(End(narrow(payload % 256)), End(narrow(payload / 256))),
-        4 => Last::Close,
-        5 => Last::Wait(Record(narrow(payload))),
-        _ => Last::Nothing,
+        3 => Some(Last::Split(End(narrow(payload % 256)), End(narrow(payload / 256)))),
+        4 => Some(Last::Close),
+        5 => Some(Last::Wait(Record(narrow(payload)))),
+        _ => None,
     }
 }
 
-pub fn last_of(m: &[u8], e: usize) -> Last
+pub fn last_of(m: &[u8], e: usize) -> Option<Last>
     requires { (length m.now ≡ state_size) × (e < end_count) × (end_test m.now e ≡ true) }
     ensures is { last_meaning result ≡ last_of (end_at (view m.now) e) }
     ensures within { last_within (last_meaning result) ≡ true }
 {
     let count = usize::from(m[COUNTS_AT + e]);
     if count == 0 {
-        return Last::Nothing;
+        return None;
     }
     let at = QUEUES_AT + QUEUE_SIZE * e + CELL_SIZE * (count - 1);
     last_in(get64(m, at))

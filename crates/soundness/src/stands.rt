@@ -15,18 +15,15 @@ ghost use Rattle.registers.specs.Registers.{registers_of};
 ghost use Rattle.canonical.specs.Canonical.{canonical_bytes};
 
 use crate::lasts::{Last, last_of};
-use code::{Decoded, Instruction, decode, length_table};
-use registers::{Held, Registers, Status};
-use rules::{END_COUNT, End, Record, Refusal, Slot};
+use code::{Instruction, decode, length_table};
+use registers::{Registers, Status};
+use rules::{END_COUNT, End, Record, Slot, Refusal};
 
 // Slot c holds end e.
 fn holds(held: Registers, c: Slot, e: End) -> bool
     ensures { (g : Process) → RegistersWithin g → held ≡ registers_of g → result ≡ names (slot_at g (slot_number c)) (end_number e) }
 {
-    match held.end_in(c) {
-        Held::Empty => false,
-        Held::Holds(f) => f.0 == e.0,
-    }
+    held.end_in(c) == Some(e)
 }
 
 // The slot holds the end, and no own cause holds.
@@ -64,15 +61,15 @@ fn stands_at(m: &[u8], lengths: &[u8; 256], e: End, r: Record) -> bool
     requires length_table { lengths.now ≡ lengths_of_rules }
     ensures { result ≡ stands_in (view m.now).code (end_number e) (record_at (view m.now) (record_number r)) }
 {
-    if let Status::Waiting = registers::status_of(m, r) {
-        let held = registers::load(m, r);
-        let place = held.place as usize;
-        return match decode(lengths, memory::code(m), place) {
-            Decoded::Good(i, _) => stands_named(held, e, i),
-            Decoded::Bad => false,
-        };
-    }
-    false
+    let Status::Waiting = registers::status_of(m, r) else {
+        return false;
+    };
+    let held = registers::load(m, r);
+    let place = held.place as usize;
+    let Some(decoded) = decode(lengths, memory::code(m), place) else {
+        return false;
+    };
+    stands_named(held, e, decoded.instruction)
 }
 
 // A record that the last item of end e's queue names stands at that end.
@@ -81,12 +78,10 @@ fn last_stands(m: &[u8], lengths: &[u8; 256], e: u8) -> bool
     requires length_table { lengths.now ≡ lengths_of_rules }
     ensures { result ≡ stands_test (view m.now) e }
 {
-    match last_of(m, e as usize) {
-        Last::Nothing => true,
-        Last::Split(_, _) => true,
-        Last::Close => true,
-        Last::Wait(r) => stands_at(m, lengths, End(e), r),
-    }
+    let Some(Last::Wait(r)) = last_of(m, e as usize) else {
+        return true;
+    };
+    stands_at(m, lengths, End(e), r)
 }
 
 pub fn waiting_records_stand(m: &[u8]) -> bool

@@ -15,17 +15,12 @@ use rules::offsets::{RECORD_SIZE, RECORDS_AT};
 use rules::{END_COUNT, RECORD_COUNT};
 
 // A wait counts for the record that it names.
-fn count_wait(counts: &mut [u16], last: Last)
+fn count_wait(counts: &mut [u16], last: Option<Last>)
     requires { (length counts.old ≡ record_count) × (last_within (last_meaning last) ≡ true) × Below end_count counts.old }
     ensures { Added record_count (λ (r : ℕ). named_by_last r (last_meaning last)) counts.old counts.new }
 {
-    match last {
-        Last::Nothing => {}
-        Last::Split(_, _) => {}
-        Last::Close => {}
-        Last::Wait(r) => {
-            add_one(counts, usize::from(r.0));
-        }
+    if let Some(Last::Wait(r)) = last {
+        add_one(counts, usize::from(r.0));
     }
 }
 

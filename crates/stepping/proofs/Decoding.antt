@@ -2,6 +2,7 @@
 -- nothing.
 use mathlib.Core.Path.{◌≡◌, sym, subst}
 use mathlib.Core.Option.{none, some}
+use Rattle.std.specs.Prelude.{Option as Maybe, Some, None}
 use mathlib.Core.List.{List}
 use Prim.Native.Nat.{ℕ, ◌<◌}
 use native.Mathlib.Omega.{arith}
@@ -10,20 +11,18 @@ use Rattle.rules.specs.Instruction.{Decoded as RulesDecoded, decode}
 use Rattle.rules.specs.Layout.{view}
 use Rattle.keeping.specs.Demand3.{SoundMemory}
 use Rattle.keeping.proofs.DecodeLaws.{decoded_within}
-use Rattle.code.specs.declared.Instruction.{Instruction}
 use Rattle.code.specs.declared.Decoded.{Decoded}
-use Rattle.code.specs.declared.Decoded.TheVariants.{Good, Bad}
 use Rattle.code.specs.Meaning.{instruction_of, meaning}
 
 -- `there` is the code, and the decoder has answered of it
-module _ (code there : List ℕ) (place : ℕ) (answer : Decoded) (same : there ≡ code)
+module _ (code there : List ℕ) (place : ℕ) (answer : Maybe Decoded) (same : there ≡ code)
     (right : meaning there place answer ≡ decode there place) where
-  pub decoded_good : {i : Instruction} {next : ℕ} → answer ≡ Good i next
-      → decode code place ≡ some (record { instruction = instruction_of code place i; next = next })
-  decoded_good {i} {next} q = sym (subst (λ (l : List ℕ). meaning l place (Good i next) ≡ decode l place) same (rw q at right))
+  pub decoded_good : {d : Decoded} → answer ≡ Some d
+      → decode code place ≡ some (record { instruction = instruction_of code place d.instruction; next = d.next })
+  decoded_good {d} q = sym (subst (λ (l : List ℕ). meaning l place (Some d) ≡ decode l place) same (rw q at right))
 
-  pub decoded_bad : answer ≡ Bad → decode code place ≡ none
-  decoded_bad q = sym (subst (λ (l : List ℕ). meaning l place Bad ≡ decode l place) same (rw q at right))
+  pub decoded_bad : answer ≡ None → decode code place ≡ none
+  decoded_bad q = sym (subst (λ (l : List ℕ). meaning l place None ≡ decode l place) same (rw q at right))
 
 -- the place after an instruction has two bytes
 pub next_small : (m : List ℕ) → SoundMemory m → (place : ℕ) (d : RulesDecoded) → decode (view m).code place ≡ some d → d.next < place_count

@@ -11,17 +11,15 @@ ghost use Rattle.rules.specs.Numbers.{slot_number, end_number};
 ghost use Rattle.keeping.specs.Demand3.{SoundMemory};
 ghost use Rattle.registers.specs.Registers.{registers_of};
 
-use registers::{Held, Registers};
+use registers::Registers;
 use rules::{END_COUNT, End, Slot};
 
-// The translation of a local slot to an end. An empty slot stands for no end.
+// The translation of a local slot to an end. An empty slot stands for no end: the answer is then the number of ends, as `end_in` of the rules
+// has it. It is no Option, since each caller has refused an empty slot before, and would have a case that cannot come.
 pub fn own_end(held: Registers, c: Slot) -> End
     ensures { (g : Process) → RegistersWithin g → held ≡ registers_of g → end_number result ≡ end_in g (slot_number c) }
 {
-    match held.end_in(c) {
-        Held::Empty => End(END_COUNT as u8),
-        Held::Holds(end) => end,
-    }
+    held.end_in(c).unwrap_or(End(END_COUNT as u8))
 }
 
 // The code of a memory known to be sound.

@@ -84,7 +84,7 @@ pub returns-in_default-head : goal.returns-in_default-head
 returns-in_default-head c =
     let e = c.args.end in
     let within = lt-leb end_count e c.if-end.false in
-    let own = head_here (goal.at.returns-in_default-head c).After-head ∙ ap head_in c.in-Item.is in
+    let own = head_here (goal.at.returns-in_default-head c).After-head ∙ ap head_in c.in-Some.is in
     let empty = head_there (goal.at.returns-in_default-head c).After-head-2 ∙ ap head_in c.in_default-head.is in
     refused_step 17
     (partner_empty (view c.args.m.now) e within (in_use (goal.at.returns-in_default-head c).Else-is_free) _
@@ -93,18 +93,18 @@ returns-in_default-head c =
 pub meet-requires : goal.meet-requires
 meet-requires c =
     let p = c.requires in
-    let own = head_here (goal.at.meet-requires c).After-head ∙ ap head_in c.in-Item.is in
+    let own = head_here (goal.at.meet-requires c).After-head ∙ ap head_in c.in-Some.is in
     record {
       sound_memory = (p.0, p.1, c.if-end.false, (partner_here (goal.at.meet-requires c).After-partner-f).1);
-      heads = (own, head_there (goal.at.meet-requires c).After-head-2 ∙ ap head_in c.in-Item-head.is);
+      heads = (own, head_there (goal.at.meet-requires c).After-head-2 ∙ ap head_in c.in-Some-head.is);
     }
 
 pub returns : goal.returns
 returns c =
     let e = c.args.end in
     let within = lt-leb end_count e c.if-end.false in
-    let own = head_here (goal.at.returns c).After-head ∙ ap head_in c.in-Item.is in
-    let other = head_there (goal.at.returns c).After-head-2 ∙ ap head_in c.in-Item-head.is in
+    let own = head_here (goal.at.returns c).After-head ∙ ap head_in c.in-Some.is in
+    let other = head_there (goal.at.returns c).After-head-2 ∙ ap head_in c.in-Some-head.is in
     promised_as _ (both_head (view c.args.m.now) e within (in_use (goal.at.returns c).Else-is_free) _
     (partner_here (goal.at.returns c).After-partner-f).0 own other)
     c.meet.ensures

@@ -1,14 +1,15 @@
--- `lowest_free_record` looks at one record after the other. The invariant: none of the first k is free. Assumes nothing.
-use Rattle.std.proofs.Common.{arith}
-use Rattle.rules.specs.State.{record_at}
-use Rattle.registers.proofs.FreeRecords.{is_free, lowest_is, none_free}
+-- `lowest_free_record` looks at one record after the other: the first number whose record is free, taken for that record. Assumes nothing.
+use Rattle.std.proofs.Common.{◌≡◌, ℕ, true, false, rules}
+use Rattle.std.proofs.lemmas.Iterator.{first_from_Range}
+use borrow.Author.Tests.{tests}
+use Rattle.rules.specs.State.{record_at, is_free_record}
+use Rattle.registers.proofs.FreeRecords.{lowest_found}
 use Rattle.registers.proofs.records.lowest_free_record.Goals as goal
 
-pub returns-in-Free : goal.returns-in-Free
-returns-in-Free c st z e =
-    let k = c.loop-k.k in
-    lowest_is st z k (omega arith) (c.loop-k.invariant.1 st z e)
-    (is_free (record_at st k) (c.status_of.ensures st z e) c.in-Free.is)
-
-pub returns : goal.returns
-returns c st z e = none_free st z (λ j h. c.loop-k.invariant.1 st z e j (omega arith))
+pub returns-clause-lowest : goal.returns-clause-lowest
+returns-clause-lowest c st z e =
+    let free = λ (k : ℕ). is_free_record (record_at st k) in
+    lowest_found st z (λ i r h. search rules) c.find.result c.map.result
+    (first_from_Range _ _ _ _ (λ k. free k ≡ true) (λ k. free k ≡ false) c.find.ensures.ran (λ k q h. search (rules, tests))
+    (λ k q h. search (rules, tests)))
+    c.map.ensures.cases

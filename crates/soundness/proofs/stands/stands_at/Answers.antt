@@ -43,29 +43,29 @@ loaded c within_here =
 pub code-requires : goal.code-requires
 code-requires c = (c.requires.m_len.0, code_short c.args.m.now c.requires.m_len.1)
 
-pub returns-in-Good : goal.returns-in-Good
+pub returns : goal.returns
 unfolding stands_decoded registers_of
-returns-in-Good c =
-    let x = shown (goal.at.returns-in-Good c).Start in
+returns c =
+    let x = shown (goal.at.returns c).Start in
     let w = c.in-Waiting.is in
     let code = (view c.args.m.now).code in
     let e = end_number c.args.e in
-    let held = loaded (goal.at.returns-in-Good c).After-load-held (within (goal.at.returns-in-Good c).After-status_of) in
-    c.stands_named.ensures (registers_in x) c.code.result.now c.load-held.result.place c.in-Good.field-1
-    (waiting_within code e x (told (goal.at.returns-in-Good c).After-status_of) w (within (goal.at.returns-in-Good c).After-status_of)) held
-    ∙ stands_decoded_lem code e x (told (goal.at.returns-in-Good c).After-status_of) w c.code.ensures (ap (λ (h : Registers). h.place) held)
-    c.decode.ensures c.in-Good.is
+    let held = loaded (goal.at.returns c).After-load-held (within (goal.at.returns c).After-status_of) in
+    c.stands_named.ensures (registers_in x) c.code.result.now c.load-held.result.place c.in-Some.decoded.next
+    (waiting_within code e x (told (goal.at.returns c).After-status_of) w (within (goal.at.returns c).After-status_of)) held
+    ∙ stands_decoded_lem code e x (told (goal.at.returns c).After-status_of) w c.code.ensures (ap (λ (h : Registers). h.place) held)
+    c.decode.ensures c.in-Some.is
 
-pub returns-in-Bad : goal.returns-in-Bad
+pub returns-in_default-decode : goal.returns-in_default-decode
 unfolding stands_decoded registers_of
-returns-in-Bad c =
+returns-in_default-decode c =
     let code = (view c.args.m.now).code in
-    stands_decoded_lem code (end_number c.args.e) (shown (goal.at.returns-in-Bad c).Start)
-    (told (goal.at.returns-in-Bad c).After-status_of) c.in-Waiting.is c.code.ensures
-    (ap (λ (h : Registers). h.place) (loaded (goal.at.returns-in-Bad c).After-load-held
-    (within (goal.at.returns-in-Bad c).After-status_of))) c.decode.ensures c.in-Bad.is
+    stands_decoded_lem code (end_number c.args.e) (shown (goal.at.returns-in_default-decode c).Start)
+    (told (goal.at.returns-in_default-decode c).After-status_of) c.in-Waiting.is c.code.ensures
+    (ap (λ (h : Registers). h.place) (loaded (goal.at.returns-in_default-decode c).After-load-held
+    (within (goal.at.returns-in_default-decode c).After-status_of))) c.decode.ensures c.in_default-decode.is
 
-pub returns : goal.returns
-returns c =
-    stands_not (view c.args.m.now).code (end_number c.args.e) (shown (goal.at.returns c).Start) (told (goal.at.returns c).After-status_of)
+pub returns-in_default : goal.returns-in_default
+returns-in_default c =
+    stands_not (view c.args.m.now).code (end_number c.args.e) (shown (goal.at.returns-in_default c).Start) (told (goal.at.returns-in_default c).After-status_of)
     (opened c.in_default.in_default-own.keys2)
