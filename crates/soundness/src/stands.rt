@@ -17,7 +17,7 @@ ghost use Rattle.canonical.specs.Canonical.{canonical_bytes};
 use crate::lasts::{Last, last_of};
 use code::{Instruction, decode, length_table};
 use registers::{Registers, Status};
-use rules::{END_COUNT, End, Record, Slot, Refusal};
+use rules::{END_COUNT, End, Record, Refusal, Slot};
 
 // Slot c holds end e.
 fn holds(held: Registers, c: Slot, e: End) -> bool
