@@ -27,8 +27,10 @@ pub fn answer(line: &[u8], state: &mut [u8], bytes: &mut [u8], out: &mut [u8]) -
     ensures leaves { state.new ≡ state_after state.old (asked line.now) }
     ensures within { result ≤ output_size }
 {
-    match commands::parse(line, bytes) {
-        Command::Unknown => bench::unknown(line, out),
+    let Some(command) = commands::parse(line, bytes) else {
+        return bench::unknown(line, out);
+    };
+    match command {
         Command::Remark => bench::remark(line, out),
         Command::Load(n) => requests::load(&bytes[..n], state, out),
         Command::Write(n) => requests::write(&bytes[..n], out),

@@ -1,7 +1,7 @@
 -- Laws of the grammar: a remark, the parts of a line that the code cuts out, and a hex word in the front of the buffer. Assumes nothing.
-use mathlib.Core.Path.{◌≡◌, refl, ap, ◌∙◌}
+use mathlib.Core.Path.{◌≡◌, refl, sym, ap, ◌∙◌}
 use mathlib.Core.List.{List, [], ◌∷◌}
-use mathlib.Core.Bool.{Bool, true, false}
+use mathlib.Core.Bool.{Bool, true, false, ◌&&◌}
 use mathlib.Core.Option.{Option, none, some}
 use Prim.Native.Nat.{ℕ, ◌+◌, ◌-◌, ◌/◌, ◌≤◌, ◌<◌}
 use native.Mathlib.Decide.{dec_le}
@@ -11,13 +11,15 @@ use borrow.Author.Tests.{lt-ltb, le-ltb, le-leb, lt-leb, leb-true}
 use lib.ListN.{length, get_or, take, drop, length-drop}
 use lib.Seq.{take_at}
 use lib.Dec.{leb, ltb, eqb}
+use Rattle.std.specs.Cmp.Lexicographic.{pointwise}
+use Rattle.rules.specs.Calls.{same_bytes}
 use Rattle.words.proofs.Parts.{put_front, length_put}
 use Rattle.text.specs.Written.{Written}
 use Rattle.text.specs.Digits.{length_before, value_behind, all_digits, only_if, number_in, is_hex, hex_bytes}
 use Rattle.text.proofs.Texts.{part_all}
 use Rattle.text.proofs.Hex.{length_bytes}
 use Rattle.commands.specs.Asked.{Asked, unknown, remark, asked, line_limit, space, remark_sign, is_remark, name_in}
-use Rattle.commands.specs.Asked.{with_number, with_bytes, first_word, behind_word, with_two, bare_asked, full_asked}
+use Rattle.commands.specs.Asked.{with_number, with_bytes, first_word, behind_word, with_two, bare_asked, named_asked}
 
 -- ---- a remark
 
@@ -70,37 +72,61 @@ number_within limit n word e =
 
 -- ---- words
 
--- no space, and the first one at n
-pub two_none : (limit : ℕ) (words : List ℕ) (f : ℕ → List ℕ → Asked) {n : ℕ} → n ≡ length_before space words → n ≡ length words
+-- the comparison of std
+pub same_is : (a b : List ℕ) → same_bytes a b ≡ pointwise eqb a b
+unfolding same_bytes
+same_is [] [] = refl
+same_is [] (y ∷ b) = refl
+same_is (x ∷ a) [] = refl
+same_is (x ∷ a) (y ∷ b) =
+    elim (eqb x y) as (λ (t : Bool). (elim t [ true ↦ same_bytes a b | false ↦ false ]) ≡ (t && pointwise eqb a b)) [
+      | true ↦ same_is a b
+      | false ↦ refl
+    ]
+
+-- a word was compared with a name that is written so
+pub compared : (word name : List ℕ) {written : List ℕ} {r b : Bool} → written ≡ name → r ≡ pointwise eqb word written → r ≡ b
+    → same_bytes word name ≡ b
+compared word name e p t = same_is word name ∙ ap (pointwise eqb word) (sym e) ∙ sym p ∙ t
+
+-- the two parts of words with a space, the first one at n
+pub split_parts : (words : List ℕ) (n : ℕ) → n ≡ length_before space words → n ≤ length words → (n ≡ length words → ⊥)
+    → (length_before space words < length words) × (take n words ≡ first_word words)
+    × (take (length words - (n + 1)) (drop (n + 1) words) ≡ behind_word words)
+unfolding first_word behind_word
+split_parts words n e l h =
+    (omega arith, ap (λ (k : ℕ). take k words) e, part_all words (length words) (n + 1) refl ∙ rw (add-one, e))
+
+-- no space
+pub two_none : (limit : ℕ) (words : List ℕ) (f : ℕ → List ℕ → Asked) → length_before space words ≡ length words
     → unknown ≡ with_two limit words f
 unfolding with_two
-two_none limit words f {n} e l = rw (le-ltb (length_before space words) (length words) (omega arith)) refl
+two_none limit words f l = rw (le-ltb (length_before space words) (length words) (omega arith)) refl
 
-two_some : (limit : ℕ) (words : List ℕ) (f : ℕ → List ℕ → Asked) (n : ℕ) → n ≡ length_before space words → n ≤ length words
-    → (n ≡ length words → ⊥)
-    → with_number (number_in limit (take n words)) (λ k. f k (take (length words - (n + 1)) (drop (n + 1) words))) ≡ with_two limit words f
-unfolding with_two first_word behind_word
-two_some limit words f n e l h =
-    rw (lt-ltb (length_before space words) (length words) (omega arith), ← e, part_all words (length words) (n + 1) refl, add-one) refl
+two_some : (limit : ℕ) (words : List ℕ) (f : ℕ → List ℕ → Asked) → length_before space words < length words
+    → with_number (number_in limit (first_word words)) (λ k. f k (behind_word words)) ≡ with_two limit words f
+unfolding with_two
+two_some limit words f h = rw (lt-ltb (length_before space words) (length words) h) refl
 
 -- the first word is a number, and what is asked with it
-pub two_number : (limit : ℕ) (words : List ℕ) (f : ℕ → List ℕ → Asked) (n k : ℕ) {x : Asked} → n ≡ length_before space words
-    → n ≤ length words → (n ≡ length words → ⊥) → some k ≡ number_in limit (take n words)
-    → x ≡ f k (take (length words - (n + 1)) (drop (n + 1) words)) → x ≡ with_two limit words f
-two_number limit words f n k e l h s p =
-    let rest = take (length words - (n + 1)) (drop (n + 1) words) in
-    p ∙ ap (λ (o : Option ℕ). with_number o (λ j. f j rest)) s ∙ two_some limit words f n e l h
+pub two_number : (limit : ℕ) (words : List ℕ) (f : ℕ → List ℕ → Asked) (k : ℕ) {word behind : List ℕ} {x : Asked}
+    → length_before space words < length words → word ≡ first_word words → behind ≡ behind_word words → some k ≡ number_in limit word
+    → x ≡ f k behind → x ≡ with_two limit words f
+two_number limit words f k h w b s p =
+    let first = s ∙ ap (number_in limit) w in
+    p ∙ ap (f k) b ∙ ap (λ (o : Option ℕ). with_number o (λ j. f j (behind_word words))) first ∙ two_some limit words f h
 
 -- it is none
-pub two_bad : (limit : ℕ) (words : List ℕ) (f : ℕ → List ℕ → Asked) (n : ℕ) → n ≡ length_before space words → n ≤ length words
-    → (n ≡ length words → ⊥) → none ≡ number_in limit (take n words) → unknown ≡ with_two limit words f
-two_bad limit words f n e l h s =
-    let rest = take (length words - (n + 1)) (drop (n + 1) words) in
-    ap (λ (o : Option ℕ). with_number o (λ j. f j rest)) s ∙ two_some limit words f n e l h
+pub two_bad : (limit : ℕ) (words : List ℕ) (f : ℕ → List ℕ → Asked) {word : List ℕ} → length_before space words < length words
+    → word ≡ first_word words → none ≡ number_in limit word → unknown ≡ with_two limit words f
+two_bad limit words f h w s =
+    let first = s ∙ ap (number_in limit) w in
+    ap (λ (o : Option ℕ). with_number o (λ j. f j (behind_word words))) first ∙ two_some limit words f h
 
 -- how long the rest is
-pub rest_length : (words : List ℕ) (n : ℕ) → length (take (length words - n) (drop n words)) ≤ length words
-rest_length words n = rw (part_all words (length words) n refl, length-drop) (omega arith)
+pub rest_length : (words : List ℕ) → length (behind_word words) ≤ length words
+unfolding behind_word
+rest_length words = rw length-drop (omega arith)
 
 -- ---- a line
 
@@ -120,20 +146,12 @@ line_remark line h is = rw (le-leb (length line) line_limit h, is) refl
 
 -- a line that is no remark
 module _ (line : List ℕ) (h : length line ≤ line_limit) (other : is_remark line ≡ false) where
-  pub line_bare : (n : ℕ) → n ≡ length_before space line → n ≡ length line → bare_asked line ≡ asked line
+  pub line_bare : length_before space line ≡ length line → bare_asked line ≡ asked line
   unfolding asked
-  line_bare n e l =
-      rw (le-leb (length line) line_limit h, other, le-ltb (length_before space line) (length line) (omega arith)) refl
+  line_bare l = rw (le-leb (length line) line_limit h, other, le-ltb (length_before space line) (length line) (omega arith)) refl
 
-  pub line_full : (n : ℕ) → n ≡ length_before space line → n ≤ length line → (n ≡ length line → ⊥)
-      → full_asked (name_in (take n line)) (take (length line - (n + 1)) (drop (n + 1) line)) ≡ asked line
-  unfolding asked first_word behind_word
-  line_full n e l s =
-      rw (
-        le-leb (length line) line_limit h,
-        other,
-        lt-ltb (length_before space line) (length line) (omega arith),
-        ← e,
-        part_all line (length line) (n + 1) refl,
-        add-one,
-      ) refl
+  pub line_full : {word behind : List ℕ} → length_before space line < length line → word ≡ first_word line → behind ≡ behind_word line
+      → named_asked (name_in word) behind ≡ asked line
+  unfolding asked
+  line_full l w b =
+      rw (w, b, le-leb (length line) line_limit h, other, lt-ltb (length_before space line) (length line) l) refl

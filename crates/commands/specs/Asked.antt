@@ -1,12 +1,12 @@
 -- The console's grammar: what a line asks for. A line that begins with # is a remark. In any other line words are separated by single
 -- spaces, the first one is the command's name, and a command takes exactly its words. Assumes nothing.
-use Rattle.std.specs.Prelude.{ℕ, suc, List, [], ◌∷◌, Bool, true, false, length, take, drop, leb, ltb, eqb}
+use Rattle.std.specs.Prelude.{ℕ, suc, List, [], ◌∷◌, Bool, true, false, length, take, drop, leb, ltb, eqb, Option as Named, Some, None}
 use Rattle.std.proofs.Math.Option.{Option, none, some}
 use Rattle.rules.specs.Text.{text}
 use Rattle.rules.specs.Calls.{same_bytes}
 use Rattle.text.specs.Digits.{length_before, number_in, is_hex, hex_bytes}
 use Rattle.commands.specs.declared.Name.{Name}
-use Rattle.commands.specs.declared.Name.TheVariants.{Load, Write, Record, End, Run, Peek, Poke, Other}
+use Rattle.commands.specs.declared.Name.TheVariants.{Load, Write, Record, End, Run, Peek, Poke}
 
 -- what is asked for: nothing that is understood, nothing at all, a load of an image, a write of a code, a step of a record or at an end, a
 -- run of a budget from a position, the free ends, the state in words, a number of bytes from a place on, or bytes to be put there
@@ -42,16 +42,16 @@ module _ {A : Type 0} where
   when true x y = x
   when false x y = y
 
--- the command that a word names
-unfoldable pub name_in : List ℕ → Name
+-- the command that a word names, if it names one
+unfoldable pub name_in : List ℕ → Named Name
 name_in word =
-    when (same_bytes word (text "load")) Load
-    (when (same_bytes word (text "write")) Write
-    (when (same_bytes word (text "R")) Record
-    (when (same_bytes word (text "E")) End
-    (when (same_bytes word (text "run")) Run
-    (when (same_bytes word (text "peek")) Peek
-    (when (same_bytes word (text "poke")) Poke Other))))))
+    when (same_bytes word (text "load")) (Some Load)
+    (when (same_bytes word (text "write")) (Some Write)
+    (when (same_bytes word (text "R")) (Some Record)
+    (when (same_bytes word (text "E")) (Some End)
+    (when (same_bytes word (text "run")) (Some Run)
+    (when (same_bytes word (text "peek")) (Some Peek)
+    (when (same_bytes word (text "poke")) (Some Poke) None))))))
 
 -- a number, or it is not understood
 abbrev pub with_number : Option ℕ → (ℕ → Asked) → Asked
@@ -97,7 +97,11 @@ full_asked End words = with_number (number_in number_limit words) end_step
 full_asked Run words = with_numbers budget_limit words run
 full_asked Peek words = with_numbers number_limit words peek
 full_asked Poke words = with_two number_limit words (λ at word. with_bytes word (poke at))
-full_asked Other words = unknown
+
+-- the same for a word that names a command or none
+abbrev pub named_asked : Named Name → List ℕ → Asked
+named_asked None words = unknown
+named_asked (Some name) words = full_asked name words
 
 -- whether a line is for whoever reads the script
 abbrev pub is_remark : List ℕ → Bool
@@ -110,6 +114,6 @@ asked line =
     when (leb (length line) line_limit)
     (when (is_remark line) remark
     (when (ltb (length_before space line) (length line))
-    (full_asked (name_in (first_word line)) (behind_word line))
+    (named_asked (name_in (first_word line)) (behind_word line))
     (bare_asked line)))
     unknown

@@ -6,17 +6,16 @@
 ghost use Rattle.std.specs.Prelude.{◌≡◌, ◌≤◌, length, IfOk};
 ghost use Rattle.rules.specs.Layout.{state_size};
 ghost use Rattle.answers.specs.Sizes.{byte_size, output_size};
-ghost use Rattle.console.specs.Sizes.{input_size};
 
 use answers::OUTPUT_SIZE;
 use commands::LINE_LIMIT;
+use input::zeros;
 use rules::offsets::STATE_SIZE;
 use std::io::{self, Read};
-use text::length_before;
 
 const LINE_END: u8 = 10;
 
-// The lengths of the buffers, as specs/Sizes.antt here and in `answers` have them.
+// The lengths of the buffers, as specs/Sizes.antt in `answers` has them: a line and one character more, and the bytes of a line.
 const INPUT_SIZE: usize = LINE_LIMIT + 1;
 
 const BYTE_SIZE: usize = LINE_LIMIT / 2;
@@ -47,17 +46,6 @@ fn answer_line<R: Print>(
     }
     let n = answers::answer(line, state, bytes, out);
     rt.write_all(&out[0..n])
-}
-
-// The bytes from one place up to another go to the front.
-fn to_front(input: &mut [u8], from: usize, to: usize)
-    requires { (from ≤ to) × (to ≤ length input.old) }
-{
-    let mut i = from;
-    while i < to {
-        input[i - from] = input[i];
-        i += 1;
-    }
 }
 
 // One read behind the first `to` bytes: how many there are then.
@@ -130,8 +118,7 @@ fn turn<R: Print, I: Read>(
 {
     let from = r.from;
     let to = r.to;
-    let n = length_before(&input[from..to], LINE_END);
-    if n < to - from {
+    if let Some(n) = input[from..to].iter().position(|b| *b == LINE_END) {
         answer_line(rt, &input[from..from + n], r.skips, state, bytes, out)?;
         return Ok(Reader {
             from: from + n + 1,
@@ -140,12 +127,12 @@ fn turn<R: Print, I: Read>(
             ends: false,
         });
     }
-    to_front(input, from, to);
+    input.copy_within(from..to, 0);
     fill(rt, reader, to - from, r.skips, input, state, bytes, out)
 }
 
-// Turn after turn until the input ends. A proved loop has to end, and nothing says that an input does: so the turns are counted down, from
-// a number that no use of the console comes to.
+// Turn after turn until the input ends. A proved loop has to end, and nothing says that an input does: so the turns are counted, up to a
+// number that no use of the console comes to.
 fn serve<R: Print, I: Read>(
     rt: &R,
     reader: &mut I,
@@ -162,48 +149,21 @@ fn serve<R: Print, I: Read>(
         skips: false,
         ends: false,
     };
-    let mut turns = u64::MAX;
-    while 0 < turns {
+    for _ in 0..u64::MAX {
         let next = turn(rt, reader, r, input, state, bytes, out)?;
         if next.ends {
             return Ok(());
         }
         r = next;
-        turns -= 1;
     }
     Ok(())
 }
 
-// The state memory, a line and one character more, the bytes of a line, and an answer: each with its length, which lending it needs.
-fn state_memory() -> [u8; STATE_SIZE]
-    ensures { state_size ≡ length result }
-{
-    [0; STATE_SIZE]
-}
-
-fn input_buffer() -> [u8; INPUT_SIZE]
-    ensures { input_size ≡ length result }
-{
-    [0; INPUT_SIZE]
-}
-
-fn byte_buffer() -> [u8; BYTE_SIZE]
-    ensures { byte_size ≡ length result }
-{
-    [0; BYTE_SIZE]
-}
-
-fn output_buffer() -> [u8; OUTPUT_SIZE]
-    ensures { output_size ≡ length result }
-{
-    [0; OUTPUT_SIZE]
-}
-
 fn main(rt: HostRuntime) -> io::Result<()> {
-    let mut state = state_memory();
-    let mut input = input_buffer();
-    let mut bytes = byte_buffer();
-    let mut out = output_buffer();
+    let mut state: [u8; STATE_SIZE] = zeros();
+    let mut input: [u8; INPUT_SIZE] = zeros();
+    let mut bytes: [u8; BYTE_SIZE] = zeros();
+    let mut out: [u8; OUTPUT_SIZE] = zeros();
     memory::start(&mut state);
     serve(
         &rt,

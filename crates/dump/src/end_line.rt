@@ -70,14 +70,12 @@ fn put_queue(out: &mut [u8], at: usize, m: &[u8], e: u8) -> usize
     requires room { at + length (list_text (item_texts (end_at (view m.now) e))) ≤ length out.old }
     ensures { Written out.old at (list_text (item_texts (end_at (view m.now) e))) out.new result }
 {
-    let count = ends::queued(m, End(e)) as usize;
+    let count = usize::from(ends::queued(m, End(e)));
     let mut next = at;
-    let mut k = 0;
-    while k < count {
+    for k in 0..count {
         next = put_next(out, next, m, e, k);
-        k += 1;
     }
-    put_dash(out, next, k)
+    put_dash(out, next, count)
 }
 
 // The end's number and its partner's.

@@ -48,10 +48,8 @@ fn put_records(out: &mut [u8], at: usize, m: &[u8]) -> usize
     ensures { Written out.old at (records_text (view m.now).records) out.new result }
 {
     let mut next = at;
-    let mut r = 0;
-    while r < RECORD_COUNT {
+    for r in 0..RECORD_COUNT {
         next = record_line::put_record(out, next, m, r as u8);
-        r += 1;
     }
     next
 }
@@ -63,10 +61,8 @@ fn put_ends(out: &mut [u8], at: usize, m: &[u8]) -> usize
     ensures { Written out.old at (ends_text (view m.now).ends) out.new result }
 {
     let mut next = at;
-    let mut e = 0;
-    while e < END_COUNT {
+    for e in 0..END_COUNT {
         next = end_line::put_end(out, next, m, e as u8);
-        e += 1;
     }
     next
 }

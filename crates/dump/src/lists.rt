@@ -57,12 +57,11 @@ pub fn put_values(out: &mut [u8], at: usize, values: [i32; STACK_DEPTH], count: 
     ensures { Written out.old at (values_text (take count values)) out.new result }
 {
     let mut next = at;
-    let mut k = 0;
-    while k < count as usize {
+    let shown = usize::from(count);
+    for k in 0..shown {
         next = put_value(out, next, k, values[k]);
-        k += 1;
     }
-    put_dash(out, next, k)
+    put_dash(out, next, shown)
 }
 
 // A slot that holds an end, behind so many.
@@ -72,7 +71,7 @@ fn put_slot(out: &mut [u8], at: usize, shown: usize, c: usize, e: u8) -> usize
 {
     let behind = put_comma(out, at, shown);
     let parted = put_decimal(out, behind, c as u64);
-    put_lettered(out, parted, b':', e as u64)
+    put_lettered(out, parted, b':', u64::from(e))
 }
 
 // The slots that hold an end: in its byte an end's number and one, 0 for an empty slot.
@@ -82,13 +81,11 @@ pub fn put_slots(out: &mut [u8], at: usize, slots: [u8; SLOT_COUNT]) -> usize
 {
     let mut next = at;
     let mut shown = 0;
-    let mut c = 0;
-    while c < SLOT_COUNT {
+    for c in 0..SLOT_COUNT {
         if slots[c] != 0 {
             next = put_slot(out, next, shown, c, slots[c] - 1);
             shown += 1;
         }
-        c += 1;
     }
     put_dash(out, next, shown)
 }

@@ -1,59 +1,50 @@
 -- `bare` compares with the names in the order of the definition. Assumes nothing.
-use Rattle.std.proofs.Common.{refl, sym, ◌∙◌}
+use Rattle.std.proofs.Common.{refl}
 use Rattle.rules.specs.Text.{text}
 use Rattle.commands.specs.Asked.{bare_asked}
+use Rattle.commands.proofs.Parsing.{compared}
 use Rattle.commands.proofs.bare.Goals as goal
 
-pub returns-then-same : goal.returns-then-same
+pub returns-then-eq-clause-is : goal.returns-then-eq-clause-is
 unfolding bare_asked text
-returns-then-same c =
-    let t1 = sym c.same.ensures ∙ c.if-same.true in
-    record {
-      is = λ bytes. rw (t1) refl;
-      within = refl;
-    }
+returns-then-eq-clause-is c =
+    let word = c.args.word.now in
+    let t1 = compared word (text "load") c.as_slice.ensures c.eq.ensures c.if-eq.true in
+    λ bytes. rw (t1) refl
 
-pub returns-then-same-2 : goal.returns-then-same-2
+pub returns-then-eq-2-clause-is : goal.returns-then-eq-2-clause-is
 unfolding bare_asked text
-returns-then-same-2 c =
-    let t1 = sym c.same.ensures ∙ c.if-same.false in
-    let t2 = sym c.same-2.ensures ∙ c.if-same-2.true in
-    record {
-      is = λ bytes. rw (t1, t2) refl;
-      within = refl;
-    }
+returns-then-eq-2-clause-is c =
+    let word = c.args.word.now in
+    let t1 = compared word (text "load") c.as_slice.ensures c.eq.ensures c.if-eq.false in
+    let t2 = compared word (text "write") c.as_slice-2.ensures c.eq-2.ensures c.if-eq-2.true in
+    λ bytes. rw (t1, t2) refl
 
-pub returns-then-same-3 : goal.returns-then-same-3
+pub returns-then-eq-3-clause-is : goal.returns-then-eq-3-clause-is
 unfolding bare_asked text
-returns-then-same-3 c =
-    let t1 = sym c.same.ensures ∙ c.if-same.false in
-    let t2 = sym c.same-2.ensures ∙ c.if-same-2.false in
-    let t3 = sym c.same-3.ensures ∙ c.if-same-3.true in
-    record {
-      is = λ bytes. rw (t1, t2, t3) refl;
-      within = refl;
-    }
+returns-then-eq-3-clause-is c =
+    let word = c.args.word.now in
+    let t1 = compared word (text "load") c.as_slice.ensures c.eq.ensures c.if-eq.false in
+    let t2 = compared word (text "write") c.as_slice-2.ensures c.eq-2.ensures c.if-eq-2.false in
+    let t3 = compared word (text "free") c.as_slice-3.ensures c.eq-3.ensures c.if-eq-3.true in
+    λ bytes. rw (t1, t2, t3) refl
 
-pub returns-then-same-4 : goal.returns-then-same-4
+pub returns-then-eq-4-clause-is : goal.returns-then-eq-4-clause-is
 unfolding bare_asked text
-returns-then-same-4 c =
-    let t1 = sym c.same.ensures ∙ c.if-same.false in
-    let t2 = sym c.same-2.ensures ∙ c.if-same-2.false in
-    let t3 = sym c.same-3.ensures ∙ c.if-same-3.false in
-    let t4 = sym c.same-4.ensures ∙ c.if-same-4.true in
-    record {
-      is = λ bytes. rw (t1, t2, t3, t4) refl;
-      within = refl;
-    }
+returns-then-eq-4-clause-is c =
+    let word = c.args.word.now in
+    let t1 = compared word (text "load") c.as_slice.ensures c.eq.ensures c.if-eq.false in
+    let t2 = compared word (text "write") c.as_slice-2.ensures c.eq-2.ensures c.if-eq-2.false in
+    let t3 = compared word (text "free") c.as_slice-3.ensures c.eq-3.ensures c.if-eq-3.false in
+    let t4 = compared word (text "dump") c.as_slice-4.ensures c.eq-4.ensures c.if-eq-4.true in
+    λ bytes. rw (t1, t2, t3, t4) refl
 
-pub returns : goal.returns
+pub returns-clause-is : goal.returns-clause-is
 unfolding bare_asked text
-returns c =
-    let t1 = sym c.same.ensures ∙ c.if-same.false in
-    let t2 = sym c.same-2.ensures ∙ c.if-same-2.false in
-    let t3 = sym c.same-3.ensures ∙ c.if-same-3.false in
-    let t4 = sym c.same-4.ensures ∙ c.if-same-4.false in
-    record {
-      is = λ bytes. rw (t1, t2, t3, t4) refl;
-      within = refl;
-    }
+returns-clause-is c =
+    let word = c.args.word.now in
+    let t1 = compared word (text "load") c.as_slice.ensures c.eq.ensures c.if-eq.false in
+    let t2 = compared word (text "write") c.as_slice-2.ensures c.eq-2.ensures c.if-eq-2.false in
+    let t3 = compared word (text "free") c.as_slice-3.ensures c.eq-3.ensures c.if-eq-3.false in
+    let t4 = compared word (text "dump") c.as_slice-4.ensures c.eq-4.ensures c.if-eq-4.false in
+    λ bytes. rw (t1, t2, t3, t4) refl

@@ -4,24 +4,18 @@ use Rattle.commands.specs.Meaning.{asks}
 use Rattle.commands.proofs.Parsing.{not_bytes, bytes_are, bytes_front}
 use Rattle.commands.proofs.with_bytes.Goals as goal
 
-pub returns-then-not-is_hex : goal.returns-then-not-is_hex
-returns-then-not-is_hex c =
+pub returns-then-not-is_hex-clause-is : goal.returns-then-not-is_hex-clause-is
+returns-then-not-is_hex-clause-is c =
     let a = c.args in
-    let other = sym c.is_hex.ensures ∙ c.if-not-is_hex.true in
-    record {
-      is = not_bytes a.word.now (asks a.name a.first 0) other;
-      within = omega arith;
-    }
+    not_bytes a.word.now (asks a.name a.first 0) (sym c.is_hex.ensures ∙ c.if-not-is_hex.true)
 
-pub returns : goal.returns
-returns c =
+pub returns-clause-is : goal.returns-clause-is
+returns-clause-is c =
     let a = c.args in
     let hex = sym c.is_hex.ensures ∙ c.if-not-is_hex.false in
-    let w = c.read_hex.ensures in
-    let read = bytes_are a.word.now (asks a.name a.first 0) hex c.requires.1 w in
-    let within = (bytes_front a.word.now c.requires.1 w).1 in
-    let count = c.named.ensures.within in
-    record {
-      is = c.named.ensures.is _ ∙ read;
-      within = omega arith;
-    }
+    c.named.ensures.is _ ∙ bytes_are a.word.now (asks a.name a.first 0) hex c.requires.1 c.read_hex-count.ensures
+
+pub returns-clause-within : goal.returns-clause-within
+returns-clause-within c =
+    let within = (bytes_front c.args.word.now c.requires.1 c.read_hex-count.ensures).1 in
+    omega (arith, c.named.ensures.within)

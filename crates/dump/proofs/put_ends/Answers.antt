@@ -1,4 +1,5 @@
 -- One line after the other. The invariant: the lines of the first e ends stand. Assumes nothing.
+use Rattle.std.proofs.Common.{arith}
 use Rattle.rules.specs.State.{free_end}
 use Rattle.dump.specs.Shown.{ends_text}
 use Rattle.dump.proofs.OneByOne.{no_line, line_room, line_more, all_lines}
@@ -22,4 +23,4 @@ loop-e-preserved c = line_more c.loop-e.invariant free_end c.loop-e-test.true c.
 
 pub returns : goal.returns
 unfolding ends_text
-returns c = all_lines c.loop-e.invariant c.loop-e-test.false
+returns c = all_lines c.loop-e.invariant (omega arith)

@@ -8,6 +8,3 @@ use Rattle.dump.proofs.put_ends.Given as goal
 
 abbrev pub invariant-loop-e : goal.invariant-loop-e
 invariant-loop-e l = LinesTo end_text end_count (view l.m).ends l.initial.out l.at l.out l.next l.e
-
-abbrev pub decreases-loop-e : goal.decreases-loop-e
-decreases-loop-e l = end_count - l.e

@@ -1,4 +1,5 @@
 -- One line after the other. The invariant: the lines of the first r records stand. Assumes nothing.
+use Rattle.std.proofs.Common.{arith}
 use Rattle.rules.specs.State.{free_record}
 use Rattle.dump.specs.Shown.{records_text}
 use Rattle.dump.proofs.OneByOne.{no_line, line_room, line_more, all_lines}
@@ -22,4 +23,4 @@ loop-r-preserved c = line_more c.loop-r.invariant free_record c.loop-r-test.true
 
 pub returns : goal.returns
 unfolding records_text
-returns c = all_lines c.loop-r.invariant c.loop-r-test.false
+returns c = all_lines c.loop-r.invariant (omega arith)

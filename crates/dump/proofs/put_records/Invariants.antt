@@ -8,6 +8,3 @@ use Rattle.dump.proofs.put_records.Given as goal
 
 abbrev pub invariant-loop-r : goal.invariant-loop-r
 invariant-loop-r l = LinesTo record_text record_count (view l.m).records l.initial.out l.at l.out l.next l.r
-
-abbrev pub decreases-loop-r : goal.decreases-loop-r
-decreases-loop-r l = record_count - l.r

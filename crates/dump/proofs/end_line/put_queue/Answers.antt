@@ -22,7 +22,7 @@ counted c =
 
 pub loop-k-init : goal.loop-k-init
 unfolding so_far
-loop-k-init c = (omega arith, refl, written_none c.args.out.now c.args.at)
+loop-k-init c = (refl, written_none c.args.out.now c.args.at)
 
 pub put_next-next-requires : goal.put_next-next-requires
 put_next-next-requires c =
@@ -33,7 +33,7 @@ put_next-next-requires c =
     record {
       sound = c.requires.sound;
       in_queue = inside;
-      room = index_room all l.k l.invariant.2 [] inside c.requires.room;
+      room = index_room all l.k l.invariant.1 [] inside c.requires.room;
     }
 
 pub loop-k-preserved : goal.loop-k-preserved
@@ -43,7 +43,7 @@ loop-k-preserved c =
     let l = c.loop-k in
     let below = c.loop-k-test.true in
     let inside : l.k < length all = omega (arith, below, counted (goal.at.loop-k-preserved c).After-queued-count) in
-    (omega (arith, below), omega arith, index_more all l.k l.invariant.2 [] inside c.put_next-next.ensures)
+    (omega arith, index_more all l.k l.invariant.1 [] inside c.put_next-next.ensures)
 
 pub put_dash-requires : goal.put_dash-requires
 put_dash-requires c =
@@ -52,17 +52,15 @@ put_dash-requires c =
     let l = c.loop-k in
     let enough : length all ≡ l.k = omega (
       arith,
-      c.loop-k-test.false,
-      l.invariant.0,
       counted
           (goal.at.put_dash-requires c).After-queued-count,
     ) in
-    index_dash_room all l.k l.invariant.2 enough c.requires.room
+    index_dash_room all l.k l.invariant.1 enough c.requires.room
 
 pub returns : goal.returns
 returns c =
     let a = c.args in
     let all = item_texts (end_at (view a.m.now) a.e) in
     let l = c.loop-k in
-    let enough : length all ≡ l.k = omega (arith, c.loop-k-test.false, l.invariant.0, counted (goal.at.returns c).After-queued-count) in
-    index_done all l.k l.invariant.2 enough c.put_dash.ensures
+    let enough : length all ≡ l.k = omega (arith, counted (goal.at.returns c).After-queued-count) in
+    index_done all l.k l.invariant.1 enough c.put_dash.ensures

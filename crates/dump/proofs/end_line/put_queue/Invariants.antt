@@ -8,8 +8,5 @@ use Rattle.dump.proofs.OneByOne.{so_far}
 use Rattle.dump.proofs.end_line.put_queue.Given as goal
 
 abbrev pub invariant-loop-k : goal.invariant-loop-k
-invariant-loop-k l = (l.k ≤ l.count) × (length l.out ≡ length l.initial.out)
+invariant-loop-k l = (length l.out ≡ length l.initial.out)
     × Written l.initial.out l.at (so_far (take l.k (item_texts (end_at (view l.m) l.e)))) l.out l.next
-
-abbrev pub decreases-loop-k : goal.decreases-loop-k
-decreases-loop-k l = l.count - l.k

@@ -14,12 +14,12 @@ pub loop-c-init : goal.loop-c-init
 loop-c-init c =
     let a = c.args in
     let none_yet = no_slots a.out.now a.at a.slots in
-    (omega arith, slots_length none_yet, none_yet)
+    (slots_length none_yet, none_yet)
 
 pub put_slot-next-requires : goal.put_slot-next-requires
 put_slot-next-requires c =
     let l = c.loop-c in
-    slot_room_lem c.args.slots l.c l.invariant.2 (eight (goal.at.put_slot-next-requires c).Start) c.loop-c-test.true
+    slot_room_lem c.args.slots l.c l.invariant.1 (eight (goal.at.put_slot-next-requires c).Start) c.loop-c-test.true
     c.if-slots-c-ne0.true c.requires
 
 pub loop-c-preserved : goal.loop-c-preserved
@@ -30,21 +30,21 @@ loop-c-preserved c =
     let more : SlotsSoFar a.out.now a.at a.slots c.if-slots-c-ne0.out c.if-slots-c-ne0.next c.if-slots-c-ne0.shown (l.c + 1) =
     elim c.if-slots-c-ne0.branch [
       | then-slots-c-ne0 w ↦ slots_as w.out-is w.next-is w.shown-is
-          (slot_held a.slots l.c l.invariant.2 (eight (goal.at.loop-c-preserved c).Start) below
+          (slot_held a.slots l.c l.invariant.1 (eight (goal.at.loop-c-preserved c).Start) below
           w.if-slots-c-ne0.true w.put_slot-next.ensures)
       | else-slots-c-ne0 w ↦ slots_as w.out-is w.next-is w.shown-is
-          (slot_empty a.slots l.c l.invariant.2 (eight (goal.at.loop-c-preserved c).Start) below w.if-slots-c-ne0.false)
+          (slot_empty a.slots l.c l.invariant.1 (eight (goal.at.loop-c-preserved c).Start) below w.if-slots-c-ne0.false)
     ] in
-    (omega (arith, below), slots_length more, more)
+    (slots_length more, more)
 
 pub put_dash-requires : goal.put_dash-requires
 put_dash-requires c =
     let l = c.loop-c in
-    slots_dash_room c.args.slots l.c l.invariant.2 (omega (arith, eight (goal.at.put_dash-requires c).Start, c.loop-c-test.false))
+    slots_dash_room c.args.slots l.c l.invariant.1 (omega (arith, eight (goal.at.put_dash-requires c).Start))
     c.requires
 
 pub returns : goal.returns
 returns c =
     let l = c.loop-c in
-    let all : length c.args.slots ≤ l.c = omega (arith, eight (goal.at.returns c).Start, c.loop-c-test.false) in
-    slots_done c.args.slots l.c l.invariant.2 all c.put_dash.ensures
+    let all : length c.args.slots ≤ l.c = omega (arith, eight (goal.at.returns c).Start) in
+    slots_done c.args.slots l.c l.invariant.1 all c.put_dash.ensures

@@ -5,8 +5,5 @@ use Rattle.dump.proofs.HeldSlots.{SlotsSoFar}
 use Rattle.dump.proofs.lists.put_slots.Given as goal
 
 abbrev pub invariant-loop-c : goal.invariant-loop-c
-invariant-loop-c l = (l.c ≤ slot_count) × (length l.out ≡ length l.initial.out)
+invariant-loop-c l = (length l.out ≡ length l.initial.out)
     × SlotsSoFar l.initial.out l.at l.slots l.out l.next l.shown l.c
-
-abbrev pub decreases-loop-c : goal.decreases-loop-c
-decreases-loop-c l = slot_count - l.c

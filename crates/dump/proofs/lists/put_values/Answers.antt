@@ -29,7 +29,7 @@ value_text count k values h f =
 
 pub loop-k-init : goal.loop-k-init
 unfolding so_far
-loop-k-init c = (omega arith, refl, written_none c.args.out.now c.args.at)
+loop-k-init c = (refl, written_none c.args.out.now c.args.at)
 
 pub put_value-next-requires : goal.put_value-next-requires
 unfolding values_text
@@ -41,7 +41,7 @@ put_value-next-requires c =
     let fits = values_fit stack_depth a.values _ c.well_formed.1.1.0 l.k in
     let inside : l.k < length all = omega (arith, below, counted (goal.at.put_value-next-requires c).Start) in
     room_as l.next _ _ l.out (value_text a.count l.k a.values below fits)
-    (index_room all l.k l.invariant.2 (signed_decimal (pos 0)) inside c.requires.room)
+    (index_room all l.k l.invariant.1 (signed_decimal (pos 0)) inside c.requires.room)
 
 pub loop-k-preserved : goal.loop-k-preserved
 loop-k-preserved c =
@@ -52,20 +52,20 @@ loop-k-preserved c =
     let fits = values_fit stack_depth a.values _ c.well_formed.1.1.0 l.k in
     let inside : l.k < length all = omega (arith, below, counted (goal.at.loop-k-preserved c).Start) in
     let value = written_as (value_text a.count l.k a.values below fits) c.put_value-next.ensures in
-    (omega (arith, below), omega arith, index_more all l.k l.invariant.2 (signed_decimal (pos 0)) inside value)
+    (omega arith, index_more all l.k l.invariant.1 (signed_decimal (pos 0)) inside value)
 
 pub put_dash-requires : goal.put_dash-requires
 unfolding values_text
 put_dash-requires c =
     let l = c.loop-k in
     let all = value_texts c.args.count c.args.values in
-    let enough : length all ≡ l.k = omega (arith, c.loop-k-test.false, l.invariant.0, counted (goal.at.put_dash-requires c).Start) in
-    index_dash_room all l.k l.invariant.2 enough c.requires.room
+    let enough : length all ≡ l.k = omega (arith, counted (goal.at.put_dash-requires c).Start) in
+    index_dash_room all l.k l.invariant.1 enough c.requires.room
 
 pub returns : goal.returns
 unfolding values_text
 returns c =
     let l = c.loop-k in
     let all = value_texts c.args.count c.args.values in
-    let enough : length all ≡ l.k = omega (arith, c.loop-k-test.false, l.invariant.0, counted (goal.at.returns c).Start) in
-    index_done all l.k l.invariant.2 enough c.put_dash.ensures
+    let enough : length all ≡ l.k = omega (arith, counted (goal.at.returns c).Start) in
+    index_done all l.k l.invariant.1 enough c.put_dash.ensures

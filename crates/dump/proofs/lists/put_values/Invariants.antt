@@ -6,8 +6,5 @@ use Rattle.dump.proofs.ValueTexts.{value_texts}
 use Rattle.dump.proofs.lists.put_values.Given as goal
 
 abbrev pub invariant-loop-k : goal.invariant-loop-k
-invariant-loop-k l = (l.k ≤ l.count) × (length l.out ≡ length l.initial.out)
+invariant-loop-k l = (length l.out ≡ length l.initial.out)
     × Written l.initial.out l.at (so_far (take l.k (value_texts l.count l.values))) l.out l.next
-
-abbrev pub decreases-loop-k : goal.decreases-loop-k
-decreases-loop-k l = l.count - l.k
