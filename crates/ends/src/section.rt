@@ -9,6 +9,7 @@ ghost use Rattle.ends.specs.Sections.{cell_at, cell_in, with_cell, cells_in, wit
 
 use rules::offsets::{CELL_SIZE, COUNTS_AT, FREE_AT, PARTNERS_AT, QUEUES_AT};
 use rules::{End, QUEUE_DEPTH};
+use std::array;
 use words::{get64, put8, put64};
 
 // Where cell `index` of an end's queue stands.
@@ -67,22 +68,14 @@ pub fn get_cells(m: &[u8], end: End) -> [u64; 8]
     requires { (length m.now ≡ state_size) × (end_number end < end_count) }
     ensures { result ≡ cells_in m.now (end_number end) }
 {
-    let mut cells = [0; 8];
-    let mut index = 0;
-    while index < QUEUE_DEPTH {
-        cells[index] = get_cell(m, end, index as u8);
-        index += 1;
-    }
-    cells
+    array::from_fn(|index| get_cell(m, end, index as u8))
 }
 
 pub fn put_cells(m: &mut [u8], end: End, cells: [u64; 8])
     requires { (length m.old ≡ state_size) × (end_number end < end_count) }
     ensures { m.new ≡ with_cells m.old (end_number end) cells }
 {
-    let mut index = 0;
-    while index < QUEUE_DEPTH {
+    for index in 0..QUEUE_DEPTH {
         put_cell(m, end, index as u8, cells[index]);
-        index += 1;
     }
 }

@@ -1,3 +1,4 @@
+pub mod Every
 pub mod Partners
 pub mod Finals
 pub mod Counting

@@ -35,10 +35,8 @@ fn count_slots(counts: &mut [u16], slots: &[u8])
     ensures { Added end_count (λ (e : ℕ). total (in_slot e) (map view_optional slots.now))
         counts.old counts.new }
 {
-    let mut c = 0;
-    while c < slots.len() {
-        count_slot(counts, slots[c]);
-        c += 1;
+    for slot in slots {
+        count_slot(counts, *slot);
     }
 }
 
@@ -59,12 +57,10 @@ fn held_counts(m: &[u8]) -> [u16; END_COUNT]
     ensures { Counted end_count slots_in_all (λ (e : ℕ). total (held_in e) (view m.now).records) result }
 {
     let mut counts = [0u16; END_COUNT];
-    let mut i = 0;
-    while i < RECORD_COUNT {
+    for i in 0..RECORD_COUNT {
         let from = RECORDS_AT + RECORD_SIZE * i;
         let to = from + RECORD_SIZE;
         count_record(&mut counts, &m[from..to]);
-        i += 1;
     }
     counts
 }
@@ -86,10 +82,8 @@ fn standing_counts(m: &[u8]) -> [u16; END_COUNT]
     ensures { Counted end_count places_in_all (standing (view m.now)) result }
 {
     let mut counts = held_counts(m);
-    let mut e = 0;
-    while e < END_COUNT {
+    for e in 0..END_COUNT {
         count_carried(&mut counts, last_of(m, e));
-        e += 1;
     }
     counts
 }
@@ -124,12 +118,5 @@ pub fn ends_stand_once(m: &[u8]) -> bool
 {
     let counts = standing_counts(m);
     let word = get64(m, FREE_AT);
-    let mut e = 0;
-    while e < END_COUNT {
-        if !stands_once(m, word, e, counts[e]) {
-            return false;
-        }
-        e += 1;
-    }
-    true
+    (0..END_COUNT).all(|e| stands_once(m, word, e, counts[e]))
 }

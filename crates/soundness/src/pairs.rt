@@ -35,12 +35,5 @@ pub fn ends_are_paired(m: &[u8]) -> bool
     ensures { result ≡ every (paired_test (view m.now)) end_count }
 {
     let word = get64(m, FREE_AT);
-    let mut e = 0;
-    while e < END_COUNT {
-        if !is_paired(m, word, e) {
-            return false;
-        }
-        e += 1;
-    }
-    true
+    (0..END_COUNT).all(|e| is_paired(m, word, e))
 }

@@ -89,12 +89,5 @@ pub fn waiting_records_stand(m: &[u8]) -> bool
     ensures { result ≡ every (stands_test (view m.now)) end_count }
 {
     let lengths = length_table();
-    let mut e = 0;
-    while e < END_COUNT as u8 {
-        if !last_stands(m, &lengths, e) {
-            return false;
-        }
-        e += 1;
-    }
-    true
+    (0..END_COUNT as u8).all(|e| last_stands(m, &lengths, e))
 }

@@ -1,18 +1,19 @@
 // S4: each waiting record is named by exactly one wait item, running or free ones by none. That a wait stands only last in a queue is S1's.
 ghost use Rattle.std.specs.Prelude.{◌≡◌, true, ℕ, length, eqb};
 ghost use Rattle.rules.specs.Limits.{record_count, end_count};
-ghost use Rattle.rules.specs.State.{Registers as Process};
+ghost use Rattle.rules.specs.State.{RecordState};
 ghost use Rattle.rules.specs.Sound.{named_by_last, waits_naming, is_waiting};
 ghost use Rattle.rules.specs.SoundTest.{every, last_within, waits_test};
-ghost use Rattle.rules.specs.Layout.{state_size, view_status, view};
+ghost use Rattle.rules.specs.Layout.{state_size, view};
 ghost use Rattle.canonical.specs.Canonical.{canonical_bytes};
+ghost use Rattle.registers.specs.Registers.{status_of};
 ghost use Rattle.soundness.specs.Lasts.{last_meaning};
 ghost use Rattle.soundness.specs.Counts.{Below, Added, Counted};
 
 use crate::counts::add_one;
 use crate::lasts::{Last, last_of};
-use rules::offsets::{RECORD_SIZE, RECORDS_AT};
-use rules::{END_COUNT, RECORD_COUNT};
+use registers::Status;
+use rules::{END_COUNT, RECORD_COUNT, Record};
 
 // A wait counts for the record that it names.
 fn count_wait(counts: &mut [u16], last: Option<Last>)
@@ -30,22 +31,20 @@ fn wait_counts(m: &[u8]) -> [u16; RECORD_COUNT]
     ensures { Counted record_count end_count (waits_naming (view m.now)) result }
 {
     let mut counts = [0u16; RECORD_COUNT];
-    let mut e = 0;
-    while e < END_COUNT {
+    for e in 0..END_COUNT {
         count_wait(&mut counts, last_of(m, e));
-        e += 1;
     }
     counts
 }
 
-// `count` is how many wait items name the record; its status is 0 for free, 1 for running, else it waits.
-fn is_named_rightly(status: u8, count: u16) -> bool
-    ensures { (g : Process) → result ≡ eqb count (is_waiting (view_status status g)) }
+// `count` is how many wait items name the record.
+fn is_named_rightly(status: Status, count: u16) -> bool
+    ensures { (x : RecordState) → status ≡ status_of x → result ≡ eqb count (is_waiting x) }
 {
-    if status < 2 {
-        return count == 0;
+    if status == Status::Waiting {
+        return count == 1;
     }
-    count == 1
+    count == 0
 }
 
 pub fn records_are_named_rightly(m: &[u8]) -> bool
@@ -53,12 +52,5 @@ pub fn records_are_named_rightly(m: &[u8]) -> bool
     ensures { result ≡ every (waits_test (view m.now)) record_count }
 {
     let counts = wait_counts(m);
-    let mut i = 0;
-    while i < RECORD_COUNT {
-        if !is_named_rightly(m[RECORDS_AT + RECORD_SIZE * i], counts[i]) {
-            return false;
-        }
-        i += 1;
-    }
-    true
+    (0..RECORD_COUNT).all(|i| is_named_rightly(registers::status_of(m, Record(i as u8)), counts[i]))
 }

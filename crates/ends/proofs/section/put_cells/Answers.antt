@@ -9,11 +9,11 @@ eight : (c : Start) → length c.args.cells ≡ queue_depth
 eight c = search rules
 
 pub loop-index-init : goal.loop-index-init
-loop-index-init c = let a = c.args in (omega arith, refl, cells_none a.m.now a.end.0 a.cells)
+loop-index-init c = let a = c.args in (refl, cells_none a.m.now a.end.0 a.cells)
 
 pub loop-index-preserved : goal.loop-index-preserved
 loop-index-preserved c =
     let l = c.loop-index in
     let a = c.args in
     let inside : l.index < length a.cells = omega (arith, eight (goal.at.loop-index-preserved c).Start) in
-    (omega arith, omega arith, cells_more a.m.now a.end.0 a.cells l.index inside l.invariant.2 c.put_cell.ensures)
+    (omega arith, cells_more a.m.now a.end.0 a.cells l.index inside l.invariant.1 c.put_cell.ensures)

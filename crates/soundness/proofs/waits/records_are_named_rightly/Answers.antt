@@ -1,36 +1,30 @@
--- `records_are_named_rightly` looks at one record after the other, with its count. The invariant: the first i pass. Assumes nothing.
-use Rattle.std.proofs.Common.{◌≡◌, arith, ap, not}
+-- `all` tests one record after the other, with its count. Assumes nothing.
+use Rattle.std.proofs.Common.{◌≡◌, ◌∙◌, refl, Bool, ℕ, get_or, eqb, rules}
+use borrow.Author.Tests.{tests}
+use Rattle.std.proofs.lemmas.Iterator.{YieldsList-from_range}
+use Rattle.std.proofs.lemmas.Iterator.Search.{all_from_yields_List}
 use Rattle.rules.specs.Limits.{record_count}
+use Rattle.rules.specs.State.{record_at}
+use Rattle.rules.specs.Sound.{is_waiting}
 use Rattle.rules.specs.SoundTest.{waits_test}
-use Rattle.rules.specs.Layout.{view_registers, view}
-use Rattle.canonical.specs.Canonical.{record_part}
-use Rattle.canonical.proofs.Tests.{every_none}
+use Rattle.rules.specs.Layout.{view}
+use Rattle.rules.specs.Layout.{layout}
+use Rattle.words.specs.Parts.{Bytes}
+use Rattle.keeping.proofs.LayoutLaws.{Sized}
+use Rattle.soundness.proofs.Every.{every_all}
 use Rattle.soundness.proofs.Waiting.{waits_test_lem}
-use Rattle.canonical.proofs.Tests.{turn_fails, turn_passes}
+use Rattle.soundness.proofs.Instructions.{shown_sized, shown_layout}
 use Rattle.soundness.proofs.waits.records_are_named_rightly.Goals as goal
-use Rattle.soundness.proofs.waits.records_are_named_rightly.Goals.{After-is_named_rightly}
 
--- what a turn was told is the test of its record
-told : (c : After-is_named_rightly)
-    → c.is_named_rightly.result
-    ≡ waits_test (view c.args.m.now) c.loop-i.i
-told c =
+pub returns : goal.returns
+returns c =
     let m = c.args.m.now in
-    let i = c.loop-i.i in
-    waits_test_lem m i (omega arith) (c.is_named_rightly.ensures (view_registers (record_part m i)))
-    (c.wait_counts-counts.ensures.counted i (omega arith))
-
-pub loop-i-init : goal.loop-i-init
-loop-i-init c = (omega arith, every_none (waits_test (view c.args.m.now)))
-
-pub returns-then-not-is_named_rightly : goal.returns-then-not-is_named_rightly
-returns-then-not-is_named_rightly c =
-    turn_fails _ c.loop-i.i (told (goal.at.returns-then-not-is_named_rightly c).After-is_named_rightly) record_count (omega arith)
-    (ap not c.if-not-is_named_rightly.true)
-
-pub loop-i-preserved : goal.loop-i-preserved
-loop-i-preserved c = (
-  omega arith,
-  turn_passes _ c.loop-i.i (told (goal.at.loop-i-preserved c).After-is_named_rightly) c.loop-i.invariant.1
-      (ap not c.if-not-is_named_rightly.false),
-)
+    let bytes : Bytes m = λ j. (c.type_inv.m j).fits in
+    let counts = c.wait_counts-counts.result in
+    let named : ℕ → Bool = λ r. eqb (get_or counts r 0) (is_waiting (record_at (view m) r)) in
+    all_from_yields_List named _ _ _ c.all.ensures.ran (YieldsList-from_range 0 record_count record_count (cc) refl)
+    (λ x b q k.
+    let sized : Sized (view m) = shown_sized m bytes c.requires.0 c.requires.1 in
+    let laid_out : m ≡ layout (view m) = shown_layout m bytes c.requires.0 c.requires.1 in
+    search (rules, tests, sized, laid_out))
+    ∙ every_all named (waits_test (view m)) record_count (λ k h. waits_test_lem (view m) k (c.wait_counts-counts.ensures.counted k h))

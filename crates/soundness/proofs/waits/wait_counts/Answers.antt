@@ -12,7 +12,7 @@ use Rattle.soundness.proofs.waits.wait_counts.Goals as goal
 pub loop-e-init : goal.loop-e-init
 loop-e-init c =
     let m = c.args.m.now in
-    (omega arith, counted_none record_count (named_first m 0) (named_none m))
+    counted_none record_count (named_first m 0) (named_none m)
 
 pub last_of-requires : goal.last_of-requires
 last_of-requires c = (c.requires.0, omega arith, end_canonical c.args.m.now c.requires.1 c.loop-e.e (omega arith))
@@ -23,14 +23,12 @@ loop-e-preserved c =
     let e = c.loop-e.e in
     let last = last_of (end_at (view m) e) in
     let one = added_as (λ (r : ℕ). named_by_last r last) c.count_wait.ensures
-    (λ r. ap (named_by_last r) c.last_of.ensures.is) in (
-      omega arith,
-      counted_more e 1 (e + 1) (named_first m (e + 1)) c.loop-e.invariant.1 one (omega arith) (λ r. name_few r last) (omega arith)
-          (named_more m e (omega arith)),
-    )
+    (λ r. ap (named_by_last r) c.last_of.ensures.is) in
+    counted_more e 1 (e + 1) (named_first m (e + 1)) c.loop-e.invariant one (omega arith) (λ r. name_few r last) (omega arith)
+    (named_more m e (omega arith))
 
 pub returns : goal.returns
 returns c =
     let m = c.args.m.now in
     let l = c.loop-e in
-    counted_as end_count (waits_naming (view m)) l.invariant.1 (omega arith) (named_all m l.e (omega arith))
+    counted_as end_count (waits_naming (view m)) l.invariant (omega arith) (named_all m l.e (omega arith))
