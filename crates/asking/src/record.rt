@@ -8,7 +8,6 @@ ghost use Rattle.stepping.specs.Stepped.{RunsAt};
 ghost use Rattle.asking.specs.Stepped.{RecordStepped, PositionStepped};
 
 use crate::dispatch::step_instruction;
-use code::Decoded;
 use meetings::step_end;
 use registers::Status;
 use rules::{NO_INSTRUCTION, NO_RECORD, RECORD_COUNT, RECORD_WAITING, Record, Reply};
@@ -20,10 +19,10 @@ fn step_running(m: &mut [u8], lengths: &[u8; 256], r: Record) -> Reply
     ensures { RecordStepped m.old (record_number r) result m.new }
 {
     let place = registers::place_of(m, r) as usize;
-    match code::decode(lengths, stepping::code(m), place) {
-        Decoded::Bad => Reply::Refused(NO_INSTRUCTION),
-        Decoded::Good(i, next) => step_instruction(m, r, place, i, next as u16),
-    }
+    let Some(decoded) = code::decode(lengths, stepping::code(m), place) else {
+        return Reply::Refused(NO_INSTRUCTION);
+    };
+    step_instruction(m, r, place, decoded.instruction, decoded.next as u16)
 }
 
 // Any number may be asked.
