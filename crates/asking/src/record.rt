@@ -8,7 +8,6 @@ ghost use Rattle.stepping.specs.Stepped.{RunsAt};
 ghost use Rattle.asking.specs.Stepped.{RecordStepped, PositionStepped};
 
 use crate::dispatch::step_instruction;
-use code::Decoded;
 use meetings::step_end;
 use registers::Status;
 use rules::{RECORD_COUNT, Record, Refusal};
@@ -20,10 +19,10 @@ fn step_running(m: &mut [u8], lengths: &[u8; 256], r: Record) -> Result<(), Refu
     ensures { RecordStepped m.old (record_number r) result m.new }
 {
     let place = registers::place_of(m, r) as usize;
-    match code::decode(lengths, stepping::code(m), place) {
-        Decoded::Bad => Err(Refusal::NoInstruction),
-        Decoded::Good(i, next) => step_instruction(m, r, place, i, next as u16),
-    }
+    let Some(decoded) = code::decode(lengths, stepping::code(m), place) else {
+        return Err(Refusal::NoInstruction);
+    };
+    step_instruction(m, r, place, decoded.instruction, decoded.next as u16)
 }
 
 // Any number may be asked.

@@ -12,7 +12,7 @@ ghost use Rattle.dump.specs.Shown.{list_text, item_text, end_text};
 ghost use Rattle.dump.specs.Pieces.{comma_behind, item_texts};
 
 use crate::lists::{put_comma, put_dash, put_named};
-use ends::{Head, Item};
+use ends::Item;
 use rules::End;
 use text::{put_bytes, put_letter, put_lettered, put_signed};
 
@@ -57,7 +57,7 @@ fn put_next(out: &mut [u8], at: usize, m: &[u8], e: u8, k: usize) -> usize
     ensures { Written out.old at (comma_behind k ++ get_or (item_texts (end_at (view m.now) e)) k [])
         out.new result }
 {
-    let Head::Item(item) = ends::item_at(m, End(e), k as u8) else {
+    let Some(item) = ends::item_at(m, End(e), k as u8) else {
         return at;
     };
     let behind = put_comma(out, at, k);

@@ -21,11 +21,10 @@ fn refusal(m: &[u8], c: Slot, d: Slot, x: End, y: End) -> Result<(), Refusal>
         → end_number y ≡ end_in g (slot_number d) → is_free_end (end_at st (end_number x)) ≡ false
         → answer_of result ≡ shared_reply st g (same_of (slot_number c) (slot_number d)) }
 {
-    if c.0 == d.0 {
+    if c == d {
         return Err(Refusal::SameTwice); // one slot twice
     }
-    let partner = ends::partner(m, x);
-    if partner.0 == y.0 {
+    if ends::partner(m, x) == y {
         return Err(Refusal::SameTwice); // two partners
     }
     if 0 < ends::queued(m, x) {

@@ -16,7 +16,7 @@ ghost use Rattle.processes.specs.Spare.{Spare};
 use code::Branch;
 use ends::word::{count, lowest, without_lowest};
 use registers::Registers;
-use rules::{End, RECORD_COUNT, Record, Refusal, Slot};
+use rules::{End, Record, Slot, Refusal};
 
 // One of the two processes: a record runs with the slots of its set and an end in slot a.
 fn begin(m: &mut [u8], r: Record, held: Registers, a: Slot, to: Branch, e: End)
@@ -65,10 +65,9 @@ pub fn plug(m: &mut [u8], r: Record, a: Slot, first: Branch, second: Branch) -> 
     if count(word) < 2 {
         return Err(Refusal::NoneFree);
     }
-    let new = registers::lowest_free_record(m);
-    if RECORD_COUNT as u8 <= new.0 {
+    let Some(new) = registers::lowest_free_record(m) else {
         return Err(Refusal::NoneFree);
-    }
+    };
     divide(m, r, held, a, first, second, word, new);
     Ok(())
 }

@@ -18,10 +18,10 @@ use Rattle.keeping.proofs.Asks.{ask_move}
 use Rattle.keeping.proofs.RunLaws.{next_within, ahead_is, next_found}
 use Rattle.keeping.proofs.Memories.{sound_view, sound_layout}
 use Rattle.keeping.proofs.StepLaws.{steps_add, steps_stop, steps_one, reached_append, position_append}
-use Rattle.runner.specs.declared.searching.Stepped.{Stepped}
-use Rattle.runner.specs.declared.searching.Stepped.TheVariants.{Nowhere, At}
+use Rattle.std.specs.Prelude.{Option as Maybe, Some, None}
+use Rattle.std.proofs.lemmas.Option.{none-some, same_Some}
 use Rattle.runner.specs.Runs.{stepped_by, memory_by, Ended}
-use Rattle.runner.proofs.Somewhere.{is_somewhere, position_of, no_step}
+use Rattle.runner.proofs.Somewhere.{no_step}
 
 -- so many steps have been made from st and start, the next position and the memory
 pub record MadeSoFar (st : State) (start made next : ℕ) (m : List ℕ) : Type 0 where
@@ -61,8 +61,8 @@ module _ (st : State) (start made next : ℕ) (m : List ℕ) (so_far : MadeSoFar
       ∙ ap (λ (ts : List Step). steps made st start ++ ts) (steps_stop (budget - made) (view m) next none_left)
       ∙ append-nil (steps made st start)
 
-  pub stopped : (budget : ℕ) → made ≤ budget → {r : Stepped} {left : List ℕ} → r ≡ stepped_by (next_step (view m) next)
-      → left ≡ memory_by m (next_step (view m) next) → r ≡ Nowhere → Ended st start (steps budget st start) made next left
+  pub stopped : (budget : ℕ) → made ≤ budget → {r : Maybe ℕ} {left : List ℕ} → r ≡ stepped_by (next_step (view m) next)
+      → left ≡ memory_by m (next_step (view m) next) → r ≡ None → Ended st start (steps budget st start) made next left
   stopped budget h e q is =
       let none_left = no_step (next_step (view m) next) (sym is ∙ e) in
       rw (none_more budget h none_left)
@@ -87,14 +87,14 @@ module _ (st : State) (start made next : ℕ) (m : List ℕ) (so_far : MadeSoFar
       })
 
   -- a step that was made
-  made_one : (p : ℕ) (x : Option Step) → next_step (view m) next ≡ x → At p ≡ stepped_by x
+  made_one : (p : ℕ) (x : Option Step) → next_step (view m) next ≡ x → Some p ≡ stepped_by x
       → (s : Step) × (next_step (view m) next ≡ some s) × (p ≡ s.position)
-  made_one p none q z = absurd (omega (arith, ap is_somewhere z))
-  made_one p (some s) q z = (s, q, ap position_of z)
+  made_one p none q z = absurd (none-some _ (sym z))
+  made_one p (some s) q z = (s, q, same_Some _ _ z)
 
-  module _ (p : ℕ) {r : Stepped} {left : List ℕ} (e : r ≡ stepped_by (next_step (view m) next))
+  module _ (p : ℕ) {r : Maybe ℕ} {left : List ℕ} (e : r ≡ stepped_by (next_step (view m) next))
       (q : left ≡ memory_by m (next_step (view m) next))
-      (is : r ≡ At p) where
+      (is : r ≡ Some p) where
     one : (s : Step) × (next_step (view m) next ≡ some s) × (p ≡ s.position)
     one = made_one p (next_step (view m) next) refl (sym is ∙ e)
 

@@ -32,10 +32,10 @@ use Rattle.meetings.proofs.Answers.{end_free, own_empty, partner_empty}
 use Rattle.meetings.proofs.Changes.{partner_shown}
 use Rattle.asking.specs.Stepped.{PositionStepped}
 use Rattle.asking.proofs.Answers.{free, waits, of_a_record, of_an_end}
-use Rattle.runner.specs.declared.searching.Stepped.{Stepped}
-use Rattle.runner.specs.declared.searching.Stepped.TheVariants.{Nowhere, At}
+use Rattle.std.specs.Prelude.{Option as Maybe, Some, None}
+use Rattle.std.proofs.lemmas.Option.{none-some}
 use Rattle.runner.specs.Runs.{PassedTo, stepped_by, memory_by}
-use Rattle.runner.proofs.Somewhere.{is_somewhere, no_step}
+use Rattle.runner.proofs.Somewhere.{no_step}
 
 -- ---- positions that are not worth asking
 
@@ -223,12 +223,12 @@ module _ (st : State) where
 -- the search below `to` has come from `from` to p, with the memory as it was
 module _ (m₀ : List ℕ) (from p to : ℕ) (passed : PassedTo (view m₀) from p position_count) (last : to ≤ position_count) {m : List ℕ}
     (same : m ≡ m₀) where
-  abbrev pub Sought : Stepped → List ℕ → Type 0
+  abbrev pub Sought : Maybe ℕ → List ℕ → Type 0
   Sought answer left =
       Promise (stepped_by (first_of (to - from) (view m₀) from)) (memory_by m₀ (first_of (to - from) (view m₀) from)) answer left
 
   -- all positions are passed over
-  pub none_found : from ≤ to → to ≤ p → Sought Nowhere m
+  pub none_found : from ≤ to → to ≤ p → Sought None m
   none_found h l =
       rw (passed_first (view m₀) (to - from) from to to (omega (arith, h)) (omega arith) last
       (λ i a b. passed.none_between i a (omega (arith, b, l)))
@@ -244,10 +244,10 @@ module _ (m₀ : List ℕ) (from p to : ℕ) (passed : PassedTo (view m₀) from
     asked₀ = subst (λ (x : List ℕ). Asked x said left) same asked
 
     -- p steps
-    pub found_here : said ≡ done tt → Sought (At p) left
+    pub found_here : said ≡ done tt → Sought (Some p) left
     found_here is = go (ask (view m₀) p) refl
       where
-        go : (a : Answer State) → ask (view m₀) p ≡ a → Sought (At p) left
+        go : (a : Answer State) → ask (view m₀) p ≡ a → Sought (Some p) left
         go (refused k) e = absurd (omega (arith, ap is_refused (sym is ∙ asked₀.answer_is ∙ ap reply_to e)))
         go (done st') e =
             let up = passed.upward in
@@ -278,17 +278,17 @@ module _ (m : List ℕ) (p : ℕ) (h : p < position_count) where
       ∙ around (view m) (position_count - suc p) (p - 0) p (omega (arith, h))
       ∙ ap (λ (n : ℕ). or_else (view m) (first_of n (view m) p) (first_of (p - 0) (view m) 0)) (omega (arith, h))
 
-  abbrev Next : Stepped → List ℕ → Type 0
+  abbrev Next : Maybe ℕ → List ℕ → Type 0
   Next answer left = Promise (stepped_by (next_step (view m) p)) (memory_by m (next_step (view m) p)) answer left
 
   -- a step was made from p on
   pub made_above : {q : ℕ} {left : List ℕ}
-      → Promise (stepped_by (first_of (position_count - p) (view m) p)) (memory_by m (first_of (position_count - p) (view m) p)) (At q) left
-      → Next (At q) left
+      → Promise (stepped_by (first_of (position_count - p) (view m) p)) (memory_by m (first_of (position_count - p) (view m) p)) (Some q) left
+      → Next (Some q) left
   made_above {q} {left} made = go (first_of (position_count - p) (view m) p) refl
     where
-      go : (x : Option Step) → first_of (position_count - p) (view m) p ≡ x → Next (At q) left
-      go none e = absurd (omega (arith, ap is_somewhere (made.answer_is ∙ ap stepped_by e)))
+      go : (x : Option Step) → first_of (position_count - p) (view m) p ≡ x → Next (Some q) left
+      go none e = absurd (none-some _ (sym (made.answer_is ∙ ap stepped_by e)))
       go (some s) e =
           rw (halves ∙ ap (λ (x : Option Step). or_else (view m) x (first_of (p - 0) (view m) 0)) e)
           (record { answer_is = made.answer_is ∙ ap stepped_by e; memory_is = made.memory_is ∙ ap (memory_by m) e })
@@ -296,14 +296,14 @@ module _ (m : List ℕ) (p : ℕ) (h : p < position_count) where
   -- none was: the memory is as it was, and the step below p is the one
   module _ {middle : List ℕ}
       (none_above : Promise (stepped_by (first_of (position_count - p) (view m) p)) (memory_by m (first_of (position_count - p) (view m) p))
-      Nowhere middle) where
+      None middle) where
     nothing : first_of (position_count - p) (view m) p ≡ none
     nothing = no_step (first_of (position_count - p) (view m) p) none_above.answer_is
 
     pub unmoved : middle ≡ m
     unmoved = none_above.memory_is ∙ ap (memory_by m) nothing
 
-    pub made_below : {answer : Stepped} {left : List ℕ}
+    pub made_below : {answer : Maybe ℕ} {left : List ℕ}
         → Promise (stepped_by (first_of (p - 0) (view middle) 0)) (memory_by middle (first_of (p - 0) (view middle) 0)) answer left
         → Next answer left
     made_below {answer} {left} made =

@@ -19,10 +19,9 @@ use Rattle.rules.specs.SoundTest.{all}
 use Rattle.rules.specs.Run.{Step, nothing_in_use, next_step, verdict_of}
 use Rattle.rules.specs.Layout.{free_word}
 use Rattle.rules.proofs.TestLaws.{true_is_not_false}
-use Rattle.runner.specs.declared.searching.Stepped.TheVariants.{Nowhere, At}
+use Rattle.std.specs.Prelude.{Option as Maybe, is_some}
 use Rattle.runner.specs.declared.verdict.Verdict.TheVariants.{Spent, Finished, Stuck}
 use Rattle.runner.specs.Runs.{verdict_code, stepped_by}
-use Rattle.runner.proofs.Somewhere.{is_somewhere, no_step}
 
 -- ---- every record, every end is free
 
@@ -80,18 +79,27 @@ module _ (st : State) (n : length st.ends ≡ end_count) {word : ℕ} (is : word
 -- ---- the verdict
 
 module _ (st : State) where
-  pub is_spent : (p : ℕ) → At p ≡ stepped_by (next_step st 0) → Spent ≡ verdict_code (verdict_of st)
-  unfolding verdict_of
-  is_spent p e = go (next_step st 0) refl e
-    where
-      go : (x : Option Step) → next_step st 0 ≡ x → At p ≡ stepped_by x → Spent ≡ verdict_code (verdict_of st)
-      go (some s) q z = rw q
-      go none q z = absurd (omega (arith, ap is_somewhere z))
+  -- where a step would be made, as the code found it
+  module _ {found : Maybe ℕ} (tried : found ≡ stepped_by (next_step st 0)) where
+    pub is_spent : true ≡ is_some found → Spent ≡ verdict_code (verdict_of st)
+    unfolding verdict_of
+    is_spent e = go (next_step st 0) refl
+      where
+        go : (x : Option Step) → next_step st 0 ≡ x → Spent ≡ verdict_code (verdict_of st)
+        go (some s) q = rw q
+        go none q = true_is_not_false refl (e ∙ ap is_some (tried ∙ ap stepped_by q))
 
-  pub is_finished : Nowhere ≡ stepped_by (next_step st 0) → nothing_in_use st ≡ true → Finished ≡ verdict_code (verdict_of st)
-  unfolding verdict_of
-  is_finished e h = rw (no_step (next_step st 0) e, h)
+    nothing_steps : false ≡ is_some found → next_step st 0 ≡ none
+    nothing_steps e = go (next_step st 0) refl
+      where
+        go : (x : Option Step) → next_step st 0 ≡ x → next_step st 0 ≡ none
+        go (some s) q = true_is_not_false refl (sym (e ∙ ap is_some (tried ∙ ap stepped_by q)))
+        go none q = q
 
-  pub is_stuck : Nowhere ≡ stepped_by (next_step st 0) → nothing_in_use st ≡ false → Stuck ≡ verdict_code (verdict_of st)
-  unfolding verdict_of
-  is_stuck e h = rw (no_step (next_step st 0) e, h)
+    pub is_finished : false ≡ is_some found → nothing_in_use st ≡ true → Finished ≡ verdict_code (verdict_of st)
+    unfolding verdict_of
+    is_finished e h = rw (nothing_steps e, h)
+
+    pub is_stuck : false ≡ is_some found → nothing_in_use st ≡ false → Stuck ≡ verdict_code (verdict_of st)
+    unfolding verdict_of
+    is_stuck e h = rw (nothing_steps e, h)

@@ -1,5 +1,6 @@
--- What the answers of the runner stand for, and what the steps of a run leave. Assumes nothing.
-use Rattle.std.specs.Prelude.{◌≡◌, false, List, ℕ, ◌<◌, ◌≤◌, length}
+-- What the answers of the runner stand for, and what the steps of a run leave. `Maybe` is the name here for the Option
+-- of the code. Assumes nothing.
+use Rattle.std.specs.Prelude.{◌≡◌, false, List, ℕ, ◌<◌, ◌≤◌, length, Option as Maybe, Some, None}
 use Rattle.std.proofs.Math.Option.{Option, none, some}
 use Rattle.rules.specs.Limits.{position_count}
 use Rattle.rules.specs.State.{State}
@@ -9,8 +10,6 @@ use Rattle.rules.specs.Run as rules
 use Rattle.rules.specs.Run.{Step, reached_by, position_after}
 use Rattle.rules.specs.Layout.{layout}
 use Rattle.rules.specs.Sound.{Sound}
-use Rattle.runner.specs.declared.searching.Stepped.{Stepped}
-use Rattle.runner.specs.declared.searching.Stepped.TheVariants.{Nowhere, At}
 use Rattle.runner.specs.declared.verdict.Verdict.{Verdict}
 use Rattle.runner.specs.declared.verdict.Verdict.TheVariants.{Spent, Finished, Stuck}
 use Rattle.runner.specs.declared.running.Ran.{Ran}
@@ -22,9 +21,9 @@ pub record PassedTo (st : State) (p q most : ℕ) : Type 0 where
   pub none_between : (i : ℕ) → p ≤ i → i < q → is_done (ask st i) ≡ false
 
 -- where a step is made
-abbrev pub stepped_by : Option Step → Stepped
-stepped_by none = Nowhere
-stepped_by (some s) = At s.position
+abbrev pub stepped_by : Option Step → Maybe ℕ
+stepped_by none = None
+stepped_by (some s) = Some s.position
 
 -- the memory after it; without one, as it was
 abbrev pub memory_by : List ℕ → Option Step → List ℕ

@@ -9,5 +9,5 @@ mod searching; // searching.rt: the next step
 mod verdict; // verdict.rt: what a state is when a run ends
 
 pub use running::{Ran, run};
-pub use searching::{Stepped, position_after, step_from};
+pub use searching::{position_after, step_from};
 pub use verdict::{Verdict, verdict_of};

@@ -10,7 +10,7 @@ ghost use Rattle.rules.specs.Promise.{Promise};
 ghost use Rattle.keeping.specs.Demand3.{SoundMemory};
 ghost use Rattle.runner.specs.Runs.{Ended, ran_reply};
 
-use crate::searching::{Stepped, position_after, step_from};
+use crate::searching::{position_after, step_from};
 use crate::verdict::{Verdict, verdict_of};
 use rules::{POSITION_COUNT, Refusal};
 
@@ -37,15 +37,13 @@ fn make_steps(m: &mut [u8], lengths: &[u8; 256], budget: u16, start: u32) -> Cou
         m.new }
 {
     let mut next = start;
-    let mut made = 0;
-    while made < budget {
-        match step_from(m, lengths, next) {
-            Stepped::Nowhere => return Count { made, next },
-            Stepped::At(p) => next = position_after(p),
-        }
-        made += 1;
+    for made in 0..budget {
+        let Some(p) = step_from(m, lengths, next) else {
+            return Count { made, next };
+        };
+        next = position_after(p);
     }
-    Count { made, next }
+    Count { made: budget, next }
 }
 
 // 24, 1, 25, or the run.

@@ -16,13 +16,6 @@ ghost use Rattle.runner.specs.Runs.{PassedTo, stepped_by, memory_by};
 use registers::Status;
 use rules::{End, POSITION_COUNT, RECORD_COUNT, Record, Refusal};
 
-// Where a step was made, if one was.
-#[derive(Clone, Copy)]
-pub enum Stepped {
-    Nowhere,
-    At(u32),
-}
-
 // The position after p, going around.
 pub fn position_after(p: u32) -> u32
     requires { p < position_count }
@@ -96,8 +89,9 @@ fn next_candidate(m: &[u8], from: u32) -> u32
     next_pair(m, p)
 }
 
-// The step of the first position from one on and below another that can step.
-fn step_between(m: &mut [u8], lengths: &[u8; 256], from: u32, to: u32) -> Stepped
+// The step of the first position from one on and below another that can step: that position, if there is one. The loop goes from candidate
+// to candidate, and so counts nothing.
+fn step_between(m: &mut [u8], lengths: &[u8; 256], from: u32, to: u32) -> Option<u32>
     requires m_len { (length m.old ≡ state_size) × (from ≤ to) × (to ≤ position_count) }
     requires sound_memory { SoundMemory m.old × (lengths.now ≡ lengths_of_rules) }
     ensures { Promise (stepped_by (first_of (to - from) (view m.old) from))
@@ -106,21 +100,23 @@ fn step_between(m: &mut [u8], lengths: &[u8; 256], from: u32, to: u32) -> Steppe
     let mut p = next_candidate(m, from);
     while p < to {
         if let Ok(()) = asking::step(m, lengths, p) {
-            return Stepped::At(p);
+            return Some(p);
         }
         p = next_candidate(m, p + 1);
     }
-    Stepped::Nowhere
+    None
 }
 
-pub fn step_from(m: &mut [u8], lengths: &[u8; 256], position: u32) -> Stepped
+// The step of the first of all positions, from one on and going around, that can step: that position, if there is one.
+pub fn step_from(m: &mut [u8], lengths: &[u8; 256], position: u32) -> Option<u32>
     requires m_len { (length m.old ≡ state_size) × (position < position_count) }
     requires sound_memory { SoundMemory m.old × (lengths.now ≡ lengths_of_rules) }
     ensures { Promise (stepped_by (next_step (view m.old) position))
         (memory_by m.old (next_step (view m.old) position)) result m.new }
 {
+    // no `or_else`: its contract says nothing of the memory that the closure would change
     match step_between(m, lengths, position, POSITION_COUNT as u32) {
-        Stepped::At(p) => Stepped::At(p),
-        Stepped::Nowhere => step_between(m, lengths, 0, position),
+        Some(p) => Some(p),
+        None => step_between(m, lengths, 0, position),
     }
 }

@@ -9,7 +9,7 @@ ghost use Rattle.rules.specs.Layout.{state_size, view};
 ghost use Rattle.keeping.specs.Demand3.{SoundMemory};
 ghost use Rattle.runner.specs.Runs.{verdict_code, stepped_by};
 
-use crate::searching::{Stepped, step_from};
+use crate::searching::step_from;
 use registers::Status;
 use rules::offsets::STATE_SIZE;
 use rules::{RECORD_COUNT, Record};
@@ -56,8 +56,8 @@ fn nothing_in_use(m: &[u8]) -> bool
     ends_are_free(m)
 }
 
-// What a step from position 0 would be.
-fn would_step(m: &[u8], lengths: &[u8; 256]) -> Stepped
+// Where a step from position 0 would be made, if one would.
+fn would_step(m: &[u8], lengths: &[u8; 256]) -> Option<u32>
     requires { (length m.now ≡ state_size) × SoundMemory m.now × (lengths.now ≡ lengths_of_rules) }
     ensures { result ≡ stepped_by (next_step (view m.now) 0) }
 {
@@ -70,7 +70,7 @@ pub fn verdict_of(m: &[u8], lengths: &[u8; 256]) -> Verdict
     requires { (length m.now ≡ state_size) × SoundMemory m.now × (lengths.now ≡ lengths_of_rules) }
     ensures { result ≡ verdict_code (verdict_of (view m.now)) }
 {
-    if let Stepped::At(_) = would_step(m, lengths) {
+    if would_step(m, lengths).is_some() {
         return Verdict::Spent;
     }
     if nothing_in_use(m) {

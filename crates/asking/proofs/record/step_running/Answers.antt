@@ -11,7 +11,7 @@ use Rattle.stepping.proofs.Decoding.{decoded_good, decoded_bad, next_small}
 use Rattle.asking.proofs.Listing.{listed_in}
 use Rattle.asking.proofs.Answers.{no_instruction, an_instruction}
 use Rattle.asking.proofs.record.step_running.Goals as goal
-use Rattle.asking.proofs.record.step_running.Goals.{After-place_of-place, In-Good}
+use Rattle.asking.proofs.record.step_running.Goals.{After-place_of-place, In-Some}
 
 -- the place that is read is that of the process
 placed : (c : After-place_of-place)
@@ -24,15 +24,15 @@ placed c =
     ∙ ap (λ (x : RecordState). (registers_in x).place) a.runs
 
 -- a decoding that is good
-good : (c : In-Good) → let code = (view c.args.m.now).code in
+good : (c : In-Some) → let code = (view c.args.m.now).code in
     let place = c.place_of-place.result in
-    decode code place ≡ some (record { instruction = instruction_of code place c.in-Good.i; next = c.in-Good.next })
+    decode code place ≡ some (record { instruction = instruction_of code place c.in-Some.decoded.instruction; next = c.in-Some.decoded.next })
 good c =
-    decoded_good _ _ _ _ c.code.ensures c.decode.ensures c.in-Good.is
+    decoded_good _ _ _ _ c.code.ensures c.decode.ensures c.in-Some.is
 
-pub overflow_cast-next : goal.overflow_cast-next
-overflow_cast-next c =
-    record { fits = next_small c.args.m.now c.requires.sound_memory.0 _ _ (good (goal.at.overflow_cast-next c).In-Good) }
+pub overflow_cast-decoded : goal.overflow_cast-decoded
+overflow_cast-decoded c =
+    record { fits = next_small c.args.m.now c.requires.sound_memory.0 _ _ (good (goal.at.overflow_cast-decoded c).In-Some) }
 
 pub step_instruction-requires : goal.step_instruction-requires
 step_instruction-requires c =
@@ -42,23 +42,23 @@ step_instruction-requires c =
       sound_memory = (
         p.sound_memory.0,
         p.sound_memory.2,
-        listed_in (view c.args.m.now).code _ c.in-Good.i c.in-Good.next
-            (good (goal.at.step_instruction-requires c).In-Good),
+        listed_in (view c.args.m.now).code _ c.in-Some.decoded.instruction c.in-Some.decoded.next
+            (good (goal.at.step_instruction-requires c).In-Some),
       );
     }
 
-pub returns-in-Bad : goal.returns-in-Bad
-returns-in-Bad c =
+pub returns-in_default : goal.returns-in_default
+returns-in_default c =
     let m = c.args.m.now in
     let a = c.requires.sound_memory.2 in
-    let bad = decoded_bad (view m).code _ _ _ c.code.ensures c.decode.ensures c.in-Bad.is in
+    let bad = decoded_bad (view m).code _ _ _ c.code.ensures c.decode.ensures c.in_default.is in
     refused_step 4 (no_instruction (view m) _ a.process a.runs
-    (ap (decode (view m).code) (sym (placed (goal.at.returns-in-Bad c).After-place_of-place)) ∙ bad))
+    (ap (decode (view m).code) (sym (placed (goal.at.returns-in_default c).After-place_of-place)) ∙ bad))
 
-pub returns-in-Good : goal.returns-in-Good
-returns-in-Good c =
+pub returns : goal.returns
+returns c =
     let m = c.args.m.now in
     let a = c.requires.sound_memory.2 in
-    let here = ap (decode (view m).code) (sym (placed (goal.at.returns-in-Good c).After-place_of-place))
-    ∙ good (goal.at.returns-in-Good c).In-Good in
+    let here = ap (decode (view m).code) (sym (placed (goal.at.returns c).After-place_of-place))
+    ∙ good (goal.at.returns c).In-Some in
     promised_as m (an_instruction (view m) _ a.process a.runs _ _ here) (c.step_instruction.ensures a.process a.runs)

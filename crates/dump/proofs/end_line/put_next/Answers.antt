@@ -11,7 +11,7 @@ use Rattle.dump.specs.Shown.{item_text}
 use Rattle.dump.specs.Pieces.{item_texts}
 use Rattle.dump.proofs.Queued.{index_within, item_shown, item_there}
 use Rattle.dump.proofs.end_line.put_next.Goals as goal
-use Rattle.dump.proofs.end_line.put_next.Goals.{In-Item, Start}
+use Rattle.dump.proofs.end_line.put_next.Goals.{In-Some, Start}
 
 -- the index is one of a cell
 inside : (s : Start) → s.args.k < queue_depth
@@ -32,24 +32,24 @@ returns-in_default c =
     item_there x c.args.k c.requires.in_queue (ap head_in (sym c.in_default.is) ∙ found)
 
 -- what is found is what is shown
-item_is : (c : In-Item)
+item_is : (c : In-Some)
     → let a = c.args in
-    item_text (item_of c.in-Item.item) ≡ get_or (item_texts (end_at (view a.m.now) a.e)) a.k []
+    item_text (item_of c.in-Some.item) ≡ get_or (item_texts (end_at (view a.m.now) a.e)) a.k []
 item_is c =
     let m = c.args.m.now in
     let s = c.requires.sound.2 in
     let x = end_at (view m) c.args.e in
     let found = c.item_at.ensures (view m) (memory_sized m s) s.laid_out (sound_fits (view m) s.state_sound _) in
-    item_shown x c.args.k _ (ap head_in (sym c.in-Item.is) ∙ found)
+    item_shown x c.args.k _ (ap head_in (sym c.in-Some.is) ∙ found)
 
 pub put_item-requires : goal.put_item-requires
 put_item-requires c =
     let a = c.args in
     let item = get_or (item_texts (end_at (view a.m.now) a.e)) a.k [] in
     let put = c.put_comma-behind in
-    room_as put.result _ item put.new.out (item_is (goal.at.put_item-requires c).In-Item)
+    room_as put.result _ item put.new.out (item_is (goal.at.put_item-requires c).In-Some)
     (room_rest item c.requires.room put.ensures)
 
 pub returns : goal.returns
 returns c =
-    written_more c.put_comma-behind.ensures (written_as (item_is (goal.at.returns c).In-Item) c.put_item.ensures)
+    written_more c.put_comma-behind.ensures (written_as (item_is (goal.at.returns c).In-Some) c.put_item.ensures)

@@ -1,5 +1,7 @@
 -- plug: what its rows say, 15, or the two processes. Assumes nothing.
-use Rattle.std.proofs.Common.{◌≡◌, false, arith}
+use Rattle.std.proofs.Common.{◌≡◌, ap, false, arith}
+use Rattle.rules.specs.Limits.{record_count}
+use Rattle.registers.specs.Registers.{record_or}
 use Rattle.rules.specs.State.{lowest_free_record}
 use Rattle.rules.specs.Instruction.{plug}
 use Rattle.rules.specs.Causes.{few_free_ends, no_free_record}
@@ -11,7 +13,7 @@ use Rattle.stepping.proofs.FreeRecords.{no_record, some_record}
 use Rattle.stepping.proofs.Begun.{Begun, own_refuses, held, passes}
 use Rattle.processes.proofs.PlugCases.{too_few_ends, no_free_record_lem, plugged}
 use Rattle.processes.proofs.plugging.plug.Goals as goal
-use Rattle.processes.proofs.plugging.plug.Goals.{After-free_word-word, After-lowest_free_record-new, Else-count-lt2, Else-new}
+use Rattle.processes.proofs.plugging.plug.Goals.{After-free_word-word, After-lowest_free_record, Else-count-lt2, In-Some}
 use Rattle.processes.proofs.plugging.plug.Goals.{In_ok-plug}
 use Rattle.rules.specs.Refusal.{done}
 
@@ -45,8 +47,8 @@ returns-then-count-lt2 c next g is =
     c.count.ensures 2 c.if-count-lt2.true in
     refused_step 15 (too_few_ends st a.r.0 next g _ _ _ _ _ (passes (passed (goal.at.returns-then-count-lt2 c).In_ok-plug) g is) few)
 
-pub lowest_free_record-new-requires : goal.lowest_free_record-new-requires
-lowest_free_record-new-requires c = memory_length _ c.requires.0
+pub lowest_free_record-requires : goal.lowest_free_record-requires
+lowest_free_record-requires c = memory_length _ c.requires.0
 
 -- two ends are free
 two : (c : Else-count-lt2) → few_free_ends 2 (view c.args.m.now) ≡ false
@@ -54,24 +56,27 @@ two c =
     let s = c.requires.0 in
     enough_ends _ (memory_sized _ s) _ (word_read c.before.before) c.count.ensures 2 c.if-count-lt2.false
 
--- the record that is found is the lowest free one
-new_read : (c : After-lowest_free_record-new) → c.lowest_free_record-new.result.0 ≡ lowest_free_record (view c.args.m.now)
-new_read c =
+-- what is found is the lowest free record, if there is one
+read : (c : After-lowest_free_record) → record_or record_count c.lowest_free_record.result ≡ lowest_free_record (view c.args.m.now)
+read c =
     let s = c.requires.0 in
-    c.lowest_free_record-new.ensures _ (memory_sized _ s) s.laid_out
+    c.lowest_free_record.ensures.lowest _ (memory_sized _ s) s.laid_out
 
-pub returns-then-new : goal.returns-then-new
-returns-then-new c next g is =
+pub returns-in_default-lowest_free_record : goal.returns-in_default-lowest_free_record
+returns-in_default-lowest_free_record c next g is =
     let a = c.args in
+    let at = goal.at.returns-in_default-lowest_free_record c in
     let st = view a.m.now in
     let none = no_record st c.requires.0.state_sound
-    (omega (arith, c.if-new.true, new_read (goal.at.returns-then-new c).After-lowest_free_record-new)) in
-    refused_step 15 (no_free_record_lem st a.r.0 next g _ _ _ _ _ (passes (passed (goal.at.returns-then-new c).In_ok-plug) g is)
-    (two (goal.at.returns-then-new c).Else-count-lt2) none)
+    (omega (arith, ap (record_or record_count) c.in_default-lowest_free_record.is, read at.After-lowest_free_record)) in
+    refused_step 15 (no_free_record_lem st a.r.0 next g _ _ _ _ _ (passes (passed at.In_ok-plug) g is) (two at.Else-count-lt2) none)
 
--- a record is free
-some : (c : Else-new) → no_free_record (view c.args.m.now) ≡ false
-some c = some_record _ (omega (arith, c.if-new.false, new_read c.before.before))
+-- the record that is found is the lowest free one, and is free
+new_read : (c : In-Some) → c.in-Some.new.0 ≡ lowest_free_record (view c.args.m.now)
+new_read c = let s = c.requires.0 in c.in-Some.ensures.lowest _ (memory_sized _ s) s.laid_out
+
+some : (c : In-Some) → no_free_record (view c.args.m.now) ≡ false
+some c = some_record _ (omega (arith, c.in-Some.ensures.within, new_read c))
 
 pub divide-requires : goal.divide-requires
 divide-requires c =
@@ -84,8 +89,8 @@ divide-requires c =
           word_is = word_read (goal.at.divide-requires c).After-free_word-word;
           two_ends = two
               (goal.at.divide-requires c).Else-count-lt2;
-          new_is = new_read (goal.at.divide-requires c).After-lowest_free_record-new;
-          a_record = some (goal.at.divide-requires c).Else-new;
+          new_is = new_read (goal.at.divide-requires c).In-Some;
+          a_record = some (goal.at.divide-requires c).In-Some;
         },
       );
     }
@@ -96,5 +101,5 @@ returns c next g is =
     let m = a.m.now in
     let b = passed (goal.at.returns c).In_ok-plug in
     done_step m _ (plugged (view m) a.r.0 next g _ _ _ _ _ (passes b g is) (two (goal.at.returns c).Else-count-lt2)
-    (some (goal.at.returns c).Else-new))
+    (some (goal.at.returns c).In-Some))
     (c.divide.ensures next g is (held b g is))

@@ -17,18 +17,18 @@ step_from-requires c =
       sound_memory = (s, p.sound_memory.1);
     }
 
-pub returns-in-Nowhere : goal.returns-in-Nowhere
-returns-in-Nowhere c =
+pub returns-in_default : goal.returns-in_default
+returns-in_default c =
     let l = c.loop-made in
     let b = c.args.budget in
     let promise = c.step_from.ensures in
-    stopped _ _ _ _ _ l.invariant.2 b l.invariant.0 promise.answer_is promise.memory_is c.in-Nowhere.is
+    stopped _ _ _ _ _ l.invariant.2 b l.invariant.0 promise.answer_is promise.memory_is c.in_default.is
 
 pub position_after-next-requires : goal.position_after-next-requires
 position_after-next-requires c =
     let l = c.loop-made in
     let promise = c.step_from.ensures in
-    position_in_range _ _ _ _ _ l.invariant.2 _ promise.answer_is promise.memory_is c.in-At.is
+    position_in_range _ _ _ _ _ l.invariant.2 _ promise.answer_is promise.memory_is c.in-Some.is
 
 pub loop-made-preserved : goal.loop-made-preserved
 loop-made-preserved c =
@@ -36,5 +36,5 @@ loop-made-preserved c =
     let promise = c.step_from.ensures in (
       omega (arith, c.loop-made-test.true),
       omega arith,
-      one_more _ _ _ _ _ l.invariant.2 _ promise.answer_is promise.memory_is c.in-At.is _ c.position_after-next.ensures,
+      one_more _ _ _ _ _ l.invariant.2 _ promise.answer_is promise.memory_is c.in-Some.is _ c.position_after-next.ensures,
     )
