@@ -1,66 +1,31 @@
--- Code that tests the rows 5 to 11 of an instruction one after the other: a test that fails passes its row, the first that holds decides,
--- and with all rows passed the reply is done. Assumes nothing.
-use mathlib.Core.Path.{◌≡◌, refl, sym, ap, ◌∙◌}
-use mathlib.Core.Bool.{Bool, true, false}
-use mathlib.Core.List.{List, [], ◌∷◌, ◌++◌, map}
-use Prim.Native.Nat.{ℕ, suc}
-use lib.ListN.{drop}
+-- Rows that are tested in a function of their own, in front of further rows: where one of them holds it is the answer, where none holds the
+-- further rows are asked. Assumes nothing.
+use mathlib.Core.Path.{◌≡◌, sym, ◌∙◌}
+use mathlib.Core.List.{List, [], ◌∷◌, ◌++◌}
+use Prim.Native.Nat.{ℕ}
+use Rattle.std.specs.Result.{IsErrAnd}
 use Rattle.rules.specs.State.{Registers}
-use Rattle.rules.specs.Refusal.{Row, refused, done, unless}
-use Rattle.rules.specs.Instruction.{Instruction}
-use Rattle.rules.specs.Causes.{own_causes}
-use Rattle.rules.proofs.Rows.{row_at, Passed, none_passed, passed, stopped}
-use Rattle.rules.proofs.TestLaws.{true_is_not_false}
-use Rattle.causes.specs.Own.{own_reply, any_of}
+use Rattle.rules.specs.Slots.{over}
+use Rattle.rules.specs.Causes.{empty}
+use Rattle.rules.specs.Refusal.{Row, refused, done}
+use Rattle.rules.specs.Numbers.{Reply, refusal_number, answer_of}
+use Rattle.rules.specs.declared.Refusal.{Refusal}
+use Rattle.rules.proofs.Promises.{handed_on}
+use Rattle.causes.specs.Own.{rows_reply}
+use Rattle.causes.proofs.Shared.{in_parts, one_holds, goes_on}
 
--- row k of an instruction
-abbrev pub own_row : Registers → Instruction → ℕ → Row
-own_row g i k = row_at (own_causes g i) k
+-- the rows of one slot that must hold an end, and those of a split and a fork
+abbrev pub slot_rows : (c : ℕ) → Registers → List Row
+slot_rows c g = (8, over c) ∷ (8, empty c g) ∷ []
 
--- the rows before k do not hold
-pub record OwnPassed (g : Registers) (i : Instruction) (k : ℕ) : Type 0 where
-  pub rows_passed : Passed {A = Unit {0}} (own_causes g i) (done tt) k
+abbrev pub three_rows : (c a b : ℕ) → Registers → List Row
+three_rows c a b g = (8, over c) ∷ (8, over a) ∷ (8, over b) ∷ (8, empty c g) ∷ []
 
-pub first : (g : Registers) (i : Instruction) → OwnPassed g i 0
-first g i = record { rows_passed = none_passed }
+-- a refusal by the first rows, which `?` hands on
+pub first_refuse : (rows more : List Row) (r : Reply) (e : Refusal) → IsErrAnd r (λ (f : Refusal). f ≡ e)
+    → refused (refusal_number e) ≡ rows_reply rows → answer_of r ≡ rows_reply (rows ++ more)
+first_refuse rows more r e h is = handed_on r e h ∙ sym (in_parts rows more (done tt) ∙ one_holds rows _ _ (sym is))
 
-module _ {g : Registers} {i : Instruction} {k : ℕ} (p : OwnPassed g i k) {b : Bool} (is : b ≡ (own_row g i k).1) where
-  pub next : b ≡ false → OwnPassed g i (suc k)
-  next fails = record { rows_passed = passed p.rows_passed (sym is ∙ fails) }
-
-  pub stop : b ≡ true → refused (own_row g i k).0 ≡ own_reply g i
-  stop holds = sym (stopped p.rows_passed (sym is ∙ holds))
-
-pub through : {g : Registers} {i : Instruction} {k : ℕ} → OwnPassed g i k → drop k (own_causes g i) ≡ [] → done tt ≡ own_reply g i
-unfolding unless
-through {g} {i} p e =
-    sym (p.rows_passed.left ∙ ap (λ rows. unless rows (done tt)) e)
-
--- ---- several rows of one number, tested at once
-
-group_holds : (n : ℕ) (tests : List Bool) (rest : List Row) → any_of tests ≡ true
-    → unless {A = Unit {0}} (map (λ (test : Bool). (n, test)) tests ++ rest) (done tt) ≡ refused n
-unfolding unless
-group_holds n [] rest h = true_is_not_false h refl
-group_holds n (true ∷ tests) rest h = refl
-group_holds n (false ∷ tests) rest h = group_holds n tests rest h
-
-group_fails : (n : ℕ) (tests : List Bool) (rest : List Row) → any_of tests ≡ false
-    → unless {A = Unit {0}} (map (λ (test : Bool). (n, test)) tests ++ rest) (done tt) ≡ unless rest (done tt)
-unfolding unless
-group_fails n [] rest h = refl
-group_fails n (true ∷ tests) rest h = true_is_not_false refl h
-group_fails n (false ∷ tests) rest h = group_fails n tests rest h
-
-module _ (g : Registers) (i : Instruction) (n : ℕ) (tests : List Bool) (rest : List Row)
-    (are : own_causes g i ≡ map (λ (test : Bool). (n, test)) tests ++ rest) {b : Bool} (is : b ≡ any_of tests) where
-  pub stop_group : b ≡ true → refused n ≡ own_reply g i
-  stop_group holds = sym (ap (λ rows. unless rows (done tt)) are ∙ group_holds n tests rest (sym is ∙ holds))
-
-  pub next_group : b ≡ false → (k : ℕ) → drop k (own_causes g i) ≡ rest → OwnPassed g i k
-  next_group fails k behind = record {
-    rows_passed = record {
-      left = ap (λ rows. unless rows (done tt)) are ∙ group_fails n tests rest (sym is ∙ fails)
-          ∙ ap (λ rows. unless rows (done tt)) (sym behind);
-    };
-  }
+-- none of the first rows holds
+pub first_pass : (rows more : List Row) → done tt ≡ rows_reply rows → rows_reply more ≡ rows_reply (rows ++ more)
+first_pass rows more is = sym (in_parts rows more (done tt) ∙ goes_on rows _ (sym is))

@@ -39,7 +39,7 @@ one_holds ((k, true) ∷ rows) a n e = ap refused (ap number_of e)
 one_holds ((k, false) ∷ rows) a n e = one_holds rows a n e
 
 -- rows in two parts are asked one part after the other
-in_parts : {A : Type 0} (rows more : List Row) (a : Answer A) → unless (rows ++ more) a ≡ unless rows (unless more a)
+pub in_parts : {A : Type 0} (rows more : List Row) (a : Answer A) → unless (rows ++ more) a ≡ unless rows (unless more a)
 unfolding unless
 in_parts [] more a = refl
 in_parts ((k, true) ∷ rows) more a = refl

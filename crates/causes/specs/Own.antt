@@ -1,6 +1,6 @@
 -- What an instruction gets by its record's registers alone: the number of the first of its rows 5 to 11 that holds, or done. Rows 12 to 15
 -- look at what is shared, and are for the step itself. Assumes nothing.
-use Rattle.std.specs.Prelude.{Bool, true, false, List, [], ◌∷◌}
+use Rattle.std.specs.Prelude.{List}
 use Rattle.rules.specs.State.{Registers}
 use Rattle.rules.specs.Refusal.{Row, Answer, done, unless}
 use Rattle.rules.specs.Instruction.{Instruction}
@@ -13,12 +13,3 @@ rows_reply rows = unless rows (done tt)
 -- the same of the rows 5 to 11 of instruction i for registers g
 abbrev pub own_reply : Registers → Instruction → Answer (Unit {0})
 own_reply g i = rows_reply (own_causes g i)
-
--- one of several tests holds
-abbrev pub or_else : Bool → Bool → Bool
-or_else true other = true
-or_else false other = other
-
-abbrev pub any_of : List Bool → Bool
-any_of [] = false
-any_of (test ∷ tests) = or_else test (any_of tests)

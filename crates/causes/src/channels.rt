@@ -19,13 +19,7 @@ pub fn put(held: Registers, c: Slot) -> Result<(), Refusal>
     if rows::fewer(held, 1) {
         return Err(Refusal::FewValues);
     }
-    if rows::over(c) {
-        return Err(Refusal::WrongSlot);
-    }
-    if rows::empty(held, c) {
-        return Err(Refusal::WrongSlot);
-    }
-    Ok(())
+    rows::held_slot(held, c)
 }
 
 pub fn get(held: Registers, c: Slot) -> Result<(), Refusal>
@@ -34,35 +28,18 @@ pub fn get(held: Registers, c: Slot) -> Result<(), Refusal>
     if rows::stack_full(held) {
         return Err(Refusal::TooManyValues);
     }
-    if rows::over(c) {
-        return Err(Refusal::WrongSlot);
-    }
-    if rows::empty(held, c) {
-        return Err(Refusal::WrongSlot);
-    }
-    Ok(())
+    rows::held_slot(held, c)
 }
 
 pub fn split(held: Registers, c: Slot, a: Slot, b: Slot) -> Result<(), Refusal>
     ensures { (g : Process) → RegistersWithin g → held ≡ registers_of g
         → answer_of result ≡ own_reply g (split_of (slot_number c) (slot_number a) (slot_number b)) }
 {
-    if rows::wrong_slots(held, c, a, b) {
+    rows::three_slots(held, c, a, b)?;
+    if a == b || rows::taken(held, a, c) || rows::taken(held, b, c) {
         return Err(Refusal::WrongSlot);
     }
-    if rows::one_slot(a, b) {
-        return Err(Refusal::WrongSlot);
-    }
-    if rows::taken(held, a, c) {
-        return Err(Refusal::WrongSlot);
-    }
-    if rows::taken(held, b, c) {
-        return Err(Refusal::WrongSlot);
-    }
-    if rows::stack_not_empty(held) {
-        return Err(Refusal::StackNotEmpty);
-    }
-    Ok(())
+    rows::empty_stack(held)
 }
 
 pub fn fork(
@@ -77,68 +54,39 @@ pub fn fork(
         → answer_of result ≡ own_reply g
         (fork_of (slot_number c) (slot_number a) first.set first.place (slot_number b) second.set second.place) }
 {
-    if rows::wrong_slots(held, c, a, b) {
+    rows::three_slots(held, c, a, b)?;
+    if registers::in_set(first.set, a) || registers::in_set(second.set, b) {
         return Err(Refusal::WrongSlot);
     }
-    if registers::in_set(first.set, a) {
-        return Err(Refusal::WrongSlot);
-    }
-    if registers::in_set(second.set, b) {
-        return Err(Refusal::WrongSlot);
-    }
-    if registers::overlap(first.set, second.set) {
+    if registers::overlap(first.set, second.set)
+        || rows::others_not_together(held, c, first.set, second.set)
+    {
         return Err(Refusal::EndsLostOrDoubled);
     }
-    if rows::others_not_together(held, c, first.set, second.set) {
-        return Err(Refusal::EndsLostOrDoubled);
-    }
-    if rows::stack_not_empty(held) {
-        return Err(Refusal::StackNotEmpty);
-    }
-    Ok(())
+    rows::empty_stack(held)
 }
 
 pub fn close(held: Registers, c: Slot) -> Result<(), Refusal>
     ensures { (g : Process) → RegistersWithin g → held ≡ registers_of g → answer_of result ≡ own_reply g (close_of (slot_number c)) }
 {
-    if rows::over(c) {
-        return Err(Refusal::WrongSlot);
-    }
-    if rows::empty(held, c) {
-        return Err(Refusal::WrongSlot);
-    }
-    Ok(())
+    rows::held_slot(held, c)
 }
 
 pub fn halt(held: Registers, c: Slot) -> Result<(), Refusal>
     ensures { (g : Process) → RegistersWithin g → held ≡ registers_of g → answer_of result ≡ own_reply g (halt_of (slot_number c)) }
 {
-    if rows::over(c) {
-        return Err(Refusal::WrongSlot);
-    }
-    if rows::empty(held, c) {
-        return Err(Refusal::WrongSlot);
-    }
+    rows::held_slot(held, c)?;
     if rows::others_held(held, c) {
         return Err(Refusal::EndsLostOrDoubled);
     }
-    if rows::stack_not_empty(held) {
-        return Err(Refusal::StackNotEmpty);
-    }
-    Ok(())
+    rows::empty_stack(held)
 }
 
 // Whatever handle is put.
 pub fn hput(held: Registers, c: Slot) -> Result<(), Refusal>
     ensures { (g : Process) (n : ℕ) → RegistersWithin g → held ≡ registers_of g → answer_of result ≡ own_reply g (hput_of (slot_number c) n) }
 {
-    if rows::over(c) {
-        return Err(Refusal::WrongSlot);
-    }
-    if rows::empty(held, c) {
-        return Err(Refusal::WrongSlot);
-    }
-    Ok(())
+    rows::held_slot(held, c)
 }
 
 // Whatever places are listed.
@@ -146,11 +94,5 @@ pub fn hcase(held: Registers, c: Slot) -> Result<(), Refusal>
     ensures { (g : Process) (places : List ℕ) → RegistersWithin g → held ≡ registers_of g
         → answer_of result ≡ own_reply g (hcase_of (slot_number c) places) }
 {
-    if rows::over(c) {
-        return Err(Refusal::WrongSlot);
-    }
-    if rows::empty(held, c) {
-        return Err(Refusal::WrongSlot);
-    }
-    Ok(())
+    rows::held_slot(held, c)
 }

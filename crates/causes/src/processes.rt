@@ -16,50 +16,26 @@ pub fn plug(held: Registers, a: Slot, first: Branch, second: Branch) -> Result<(
     ensures { (g : Process) → RegistersWithin g → held ≡ registers_of g
         → answer_of result ≡ own_reply g (plug_of (slot_number a) first.set first.place second.set second.place) }
 {
-    if rows::over(a) {
+    if rows::over(a) || registers::in_set(first.set, a) || registers::in_set(second.set, a) {
         return Err(Refusal::WrongSlot);
     }
-    if registers::in_set(first.set, a) {
-        return Err(Refusal::WrongSlot);
+    if registers::overlap(first.set, second.set) || held.not_together(first.set, second.set) {
+        return Err(Refusal::EndsLostOrDoubled); // in both sets, or in neither
     }
-    if registers::in_set(second.set, a) {
-        return Err(Refusal::WrongSlot);
-    }
-    if registers::overlap(first.set, second.set) {
-        return Err(Refusal::EndsLostOrDoubled);
-    }
-    if held.not_together(first.set, second.set) {
-        return Err(Refusal::EndsLostOrDoubled);
-    }
-    if rows::stack_not_empty(held) {
-        return Err(Refusal::StackNotEmpty);
-    }
-    Ok(())
+    rows::empty_stack(held)
 }
 
 pub fn same(held: Registers, c: Slot, d: Slot) -> Result<(), Refusal>
     ensures { (g : Process) → RegistersWithin g → held ≡ registers_of g
         → answer_of result ≡ own_reply g (same_of (slot_number c) (slot_number d)) }
 {
-    if rows::over(c) {
-        return Err(Refusal::WrongSlot);
-    }
-    if rows::over(d) {
-        return Err(Refusal::WrongSlot);
-    }
-    if rows::empty(held, c) {
-        return Err(Refusal::WrongSlot);
-    }
-    if rows::empty(held, d) {
+    if rows::over(c) || rows::over(d) || rows::empty(held, c) || rows::empty(held, d) {
         return Err(Refusal::WrongSlot);
     }
     if rows::others_than_both_held(held, c, d) {
-        return Err(Refusal::EndsLostOrDoubled);
+        return Err(Refusal::EndsLostOrDoubled); // in another slot
     }
-    if rows::stack_not_empty(held) {
-        return Err(Refusal::StackNotEmpty);
-    }
-    Ok(())
+    rows::empty_stack(held)
 }
 
 // Whatever place is named.
@@ -70,17 +46,11 @@ pub fn run(held: Registers, n: u8, listed: &[u8]) -> Result<(), Refusal>
     if rows::fewer(held, n) {
         return Err(Refusal::FewValues);
     }
-    if registers::any_over(listed) {
+    if registers::any_over(listed) || held.any_empty(listed) {
         return Err(Refusal::WrongSlot);
     }
-    if held.any_empty(listed) {
-        return Err(Refusal::WrongSlot);
-    }
-    if registers::any_repeated(listed) {
-        return Err(Refusal::EndsLostOrDoubled);
-    }
-    if held.any_held_but(listed) {
-        return Err(Refusal::EndsLostOrDoubled);
+    if registers::any_repeated(listed) || held.any_held_but(listed) {
+        return Err(Refusal::EndsLostOrDoubled); // listed twice, or not listed
     }
     Ok(())
 }

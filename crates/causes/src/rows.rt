@@ -1,17 +1,17 @@
-// The tests of single rows, each under the name that it has in the table of causes of `rules`.
-ghost use Rattle.std.specs.Prelude.{◌≡◌, false, [], ◌∷◌, ◌<◌, eqb};
+// The tests of single rows, each under the name that it has in the table of causes of `rules`, and rows that several instructions have.
+ghost use Rattle.std.specs.Prelude.{◌≡◌, [], ◌∷◌, ◌<◌, OnOk};
 ghost use Rattle.rules.specs.Limits.{slot_count};
 ghost use Rattle.rules.specs.State.{Registers as Process};
 ghost use Rattle.rules.specs.Slots.{over as over_of, emptied, not_together};
 ghost use Rattle.rules.specs.Causes.{fewer as fewer_of, stack_full, stack_not_empty, empty as empty_of, taken as taken_of, others_held};
 ghost use Rattle.rules.specs.Causes.{others_than_both_held};
 ghost use Rattle.rules.specs.Sound.{RegistersWithin};
-ghost use Rattle.rules.specs.Numbers.{slot_number};
+ghost use Rattle.rules.specs.Numbers.{answer_of, slot_number};
 ghost use Rattle.registers.specs.Registers.{registers_of};
-ghost use Rattle.causes.specs.Own.{any_of};
+ghost use Rattle.causes.specs.Own.{rows_reply};
 
 use registers::Registers;
-use rules::{SLOT_COUNT, STACK_DEPTH, Slot};
+use rules::{Refusal, SLOT_COUNT, STACK_DEPTH, Slot};
 
 // 5: fewer stack values than the n needed.
 pub fn fewer(held: Registers, n: u8) -> bool
@@ -42,29 +42,28 @@ pub fn empty(held: Registers, c: Slot) -> bool
     held.end_in(c).is_none()
 }
 
-// 8, split and fork: c, a or b is over the last slot's number, or c is empty.
-pub fn wrong_slots(held: Registers, c: Slot, a: Slot, b: Slot) -> bool
-    ensures within { result ≡ false → (slot_number a < slot_count) × (slot_number b < slot_count) }
-    ensures is { (g : Process) → RegistersWithin g → held ≡ registers_of g
-        → result ≡ any_of (over_of (slot_number c) ∷ over_of (slot_number a) ∷ over_of (slot_number b) ∷ empty_of (slot_number c) g ∷ []) }
+// 8: slot c is over the last slot's number, or empty.
+pub fn held_slot(held: Registers, c: Slot) -> Result<(), Refusal>
+    ensures { (g : Process) → RegistersWithin g → held ≡ registers_of g
+        → answer_of result ≡ rows_reply ((8, over_of (slot_number c)) ∷ (8, empty_of (slot_number c) g) ∷ []) }
 {
-    if over(c) {
-        return true;
+    if over(c) || empty(held, c) {
+        return Err(Refusal::WrongSlot);
     }
-    if over(a) {
-        return true;
-    }
-    if over(b) {
-        return true;
-    }
-    empty(held, c)
+    Ok(())
 }
 
-// 8, split: a = b.
-pub fn one_slot(a: Slot, b: Slot) -> bool
-    ensures { result ≡ eqb (slot_number a) (slot_number b) }
+// 8, split and fork: c, a or b is over the last slot's number, or c is empty.
+pub fn three_slots(held: Registers, c: Slot, a: Slot, b: Slot) -> Result<(), Refusal>
+    ensures within { OnOk result ((slot_number a < slot_count) × (slot_number b < slot_count)) }
+    ensures is { (g : Process) → RegistersWithin g → held ≡ registers_of g
+        → answer_of result ≡ rows_reply ((8, over_of (slot_number c)) ∷ (8, over_of (slot_number a)) ∷ (8, over_of (slot_number b))
+        ∷ (8, empty_of (slot_number c) g) ∷ []) }
 {
-    a == b
+    if over(c) || over(a) || over(b) || empty(held, c) {
+        return Err(Refusal::WrongSlot);
+    }
+    Ok(())
 }
 
 // 8, split: a holds an end and isn't c.
@@ -101,8 +100,11 @@ pub fn others_not_together(held: Registers, c: Slot, m: u8, n: u8) -> bool
 }
 
 // 11: stack not empty.
-pub fn stack_not_empty(held: Registers) -> bool
-    ensures { (g : Process) → RegistersWithin g → held ≡ registers_of g → result ≡ stack_not_empty g }
+pub fn empty_stack(held: Registers) -> Result<(), Refusal>
+    ensures { (g : Process) → RegistersWithin g → held ≡ registers_of g → answer_of result ≡ rows_reply ((11, stack_not_empty g) ∷ []) }
 {
-    0 < held.stack_count
+    if 0 < held.stack_count {
+        return Err(Refusal::StackNotEmpty);
+    }
+    Ok(())
 }

@@ -1,55 +1,28 @@
--- halt: 8 of its slot, 10 of the others, 11. Assumes nothing.
-use Rattle.std.proofs.Common.{◌≡◌, refl, ℕ}
-use Rattle.rules.specs.State.{Registers as Process}
-use Rattle.rules.specs.Causes.{own_causes}
-use Rattle.rules.specs.Instruction.{halt}
-use Rattle.rules.specs.Sound.{RegistersWithin}
-use Rattle.registers.specs.Registers.{registers_of}
-use Rattle.causes.proofs.OwnRows.{OwnPassed, first, next, stop, through}
+-- halt: 8 of its slot, 10, 11. Assumes nothing.
+use Rattle.std.proofs.Common.{◌≡◌, refl, sym, ◌∙◌, List, [], ◌∷◌, ℕ}
+use Rattle.rules.specs.State.{Registers}
+use Rattle.rules.specs.Refusal.{Row, refused, unless}
+use Rattle.rules.specs.Causes.{own_causes, others_held, stack_not_empty}
+use Rattle.causes.specs.Own.{rows_reply}
+use Rattle.causes.proofs.OwnRows.{slot_rows, first_refuse, first_pass}
 use Rattle.causes.proofs.channels.halt.Goals as goal
-use Rattle.causes.proofs.channels.halt.Goals.{Else-empty, Else-others_held, Else-over, Else-stack_not_empty, Start}
 
--- of the registers that the function is given, the rows before k do not hold
-abbrev At : Start → ℕ → Type 0
-At s k = (g : Process) → RegistersWithin g → s.args.held ≡ registers_of g → OwnPassed g (halt s.args.c.0) k
+-- the rows behind those of its slot
+abbrev behind : (c : ℕ) → Registers → List Row
+behind c g = (10, others_held c g) ∷ (11, stack_not_empty g) ∷ []
 
-row_0 : (s : Start) → At s 0
-row_0 s g w e = first g _
-
-pub returns-then-over : goal.returns-then-over
+pub returns-in_err-held_slot : goal.returns-in_err-held_slot
 unfolding own_causes
-returns-then-over c g w e = stop (row_0 (goal.at.returns-then-over c).Start g w e) c.over.ensures c.if-over.true
-
-row_1 : (c : Else-over) → At c.before.before 1
-unfolding own_causes
-row_1 c g w e = next (row_0 c.before.before g w e) c.over.ensures c.if-over.false
-
-pub returns-then-empty : goal.returns-then-empty
-unfolding own_causes
-returns-then-empty c g w e = stop (row_1 (goal.at.returns-then-empty c).Else-over g w e) (c.empty.ensures g w e) c.if-empty.true
-
-row_2 : (c : Else-empty) → At c.before.before.before.before 2
-unfolding own_causes
-row_2 c g w e = next (row_1 c.before.before g w e) (c.empty.ensures g w e) c.if-empty.false
+returns-in_err-held_slot c g w e = first_refuse (slot_rows c.args.c.0 g) _ _ _ c.from_residual.ensures.1 (c.in_err-held_slot.ensures g w e)
 
 pub returns-then-others_held : goal.returns-then-others_held
-unfolding own_causes
+unfolding own_causes unless
 returns-then-others_held c g w e =
-    stop (row_2 (goal.at.returns-then-others_held c).Else-empty g w e) (c.others_held.ensures g w e) c.if-others_held.true
-
-row_3 : (c : Else-others_held) → At c.before.before.before.before.before.before 3
-unfolding own_causes
-row_3 c g w e = next (row_2 c.before.before g w e) (c.others_held.ensures g w e) c.if-others_held.false
-
-pub returns-then-stack_not_empty : goal.returns-then-stack_not_empty
-unfolding own_causes
-returns-then-stack_not_empty c g w e =
-    stop (row_3 (goal.at.returns-then-stack_not_empty c).Else-others_held g w e) (c.stack_not_empty.ensures g w e) c.if-stack_not_empty.true
-
-row_4 : (c : Else-stack_not_empty) → At c.before.before.before.before.before.before.before.before 4
-unfolding own_causes
-row_4 c g w e = next (row_3 c.before.before g w e) (c.stack_not_empty.ensures g w e) c.if-stack_not_empty.false
+    let rest : refused 10 ≡ rows_reply (behind c.args.c.0 g) = rw (sym (c.if-others_held.ensures g w e)) refl in
+    rest ∙ first_pass (slot_rows c.args.c.0 g) (behind c.args.c.0 g) (c.in_ok-held_slot.ensures g w e)
 
 pub returns : goal.returns
-unfolding own_causes
-returns c g w e = through (row_4 c g w e) refl
+unfolding own_causes unless
+returns c g w e =
+    let rest : _ ≡ rows_reply (behind c.args.c.0 g) = rw (sym (c.if-others_held.ensures g w e)) (c.empty_stack.ensures g w e) in
+    rest ∙ first_pass (slot_rows c.args.c.0 g) (behind c.args.c.0 g) (c.in_ok-held_slot.ensures g w e)

@@ -1,45 +1,13 @@
 -- put: 5, then 8 of its slot. Assumes nothing.
-use Rattle.std.proofs.Common.{◌≡◌, refl, ℕ}
-use Rattle.rules.specs.State.{Registers as Process}
+use Rattle.std.proofs.Common.{refl, sym}
+use Rattle.rules.specs.Refusal.{unless}
 use Rattle.rules.specs.Causes.{own_causes}
-use Rattle.rules.specs.Instruction.{put}
-use Rattle.rules.specs.Sound.{RegistersWithin}
-use Rattle.registers.specs.Registers.{registers_of}
-use Rattle.causes.proofs.OwnRows.{OwnPassed, first, next, stop, through}
 use Rattle.causes.proofs.channels.put.Goals as goal
-use Rattle.causes.proofs.channels.put.Goals.{Else-empty, Else-fewer, Else-over, Start}
-
--- of the registers that the function is given, the rows before k do not hold
-abbrev At : Start → ℕ → Type 0
-At s k = (g : Process) → RegistersWithin g → s.args.held ≡ registers_of g → OwnPassed g (put s.args.c.0) k
-
-row_0 : (s : Start) → At s 0
-row_0 s g w e = first g _
 
 pub returns-then-fewer : goal.returns-then-fewer
-unfolding own_causes
-returns-then-fewer c g w e = stop (row_0 (goal.at.returns-then-fewer c).Start g w e) (c.fewer.ensures g w e) c.if-fewer.true
-
-row_1 : (c : Else-fewer) → At c.before.before 1
-unfolding own_causes
-row_1 c g w e = next (row_0 c.before.before g w e) (c.fewer.ensures g w e) c.if-fewer.false
-
-pub returns-then-over : goal.returns-then-over
-unfolding own_causes
-returns-then-over c g w e = stop (row_1 (goal.at.returns-then-over c).Else-fewer g w e) c.over.ensures c.if-over.true
-
-row_2 : (c : Else-over) → At c.before.before.before.before 2
-unfolding own_causes
-row_2 c g w e = next (row_1 c.before.before g w e) c.over.ensures c.if-over.false
-
-pub returns-then-empty : goal.returns-then-empty
-unfolding own_causes
-returns-then-empty c g w e = stop (row_2 (goal.at.returns-then-empty c).Else-over g w e) (c.empty.ensures g w e) c.if-empty.true
-
-row_3 : (c : Else-empty) → At c.before.before.before.before.before.before 3
-unfolding own_causes
-row_3 c g w e = next (row_2 c.before.before g w e) (c.empty.ensures g w e) c.if-empty.false
+unfolding own_causes unless
+returns-then-fewer c g w e = rw (sym (c.if-fewer.ensures g w e)) refl
 
 pub returns : goal.returns
-unfolding own_causes
-returns c g w e = through (row_3 c g w e) refl
+unfolding own_causes unless
+returns c g w e = rw (sym (c.if-fewer.ensures g w e)) (c.held_slot.ensures g w e)
