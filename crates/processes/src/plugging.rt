@@ -16,7 +16,7 @@ ghost use Rattle.processes.specs.Spare.{Spare};
 use code::Branch;
 use ends::word::{count, lowest, without_lowest};
 use registers::Registers;
-use rules::{End, Record, Slot, Refusal};
+use rules::{End, Record, Refusal, Slot};
 
 // One of the two processes: a record runs with the slots of its set and an end in slot a.
 fn begin(m: &mut [u8], r: Record, held: Registers, a: Slot, to: Branch, e: End)
