@@ -42,10 +42,7 @@ fn nothing_in_use(m: &[u8]) -> bool
     requires { (length m.now ≡ state_size) × SoundMemory m.now }
     ensures { result ≡ nothing_in_use (view m.now) }
 {
-    if !records_are_free(m) {
-        return false;
-    }
-    ends_are_free(m)
+    records_are_free(m) && ends_are_free(m)
 }
 
 // What a step from position 0 would be.
