@@ -7,7 +7,7 @@ pub returns-in-Value : goal.returns-in-Value
 unfolding datum_cell
 returns-in-Value c =
     let moved = to_z-of_z {w = w32} {z = c.in-Value.v} (search rules) in
-    rw c.in-Value.is (ap (λ (b : ℕ). 1 + 256 * b) (c.cast_unsigned.ensures ∙ ap (of_z w32) moved))
+    rw c.in-Value.is (ap (λ (b : ℕ). 1 + 256 * b) (c.from.ensures ∙ c.cast_unsigned.ensures ∙ ap (of_z w32) moved))
 
 pub returns-in-Handle : goal.returns-in-Handle
 unfolding datum_cell
