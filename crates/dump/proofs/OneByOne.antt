@@ -102,19 +102,19 @@ module _ {out₀ out : List ℕ} {at next : ℕ} (all : List (List ℕ)) (k : �
       (subst (λ (n : ℕ). Written out next (comma_behind n ++ get_or all k d) out' next') count w))
 
   -- all of them stand
-  module _ (enough : length all ≡ k) where
+  module _ {n : ℕ} (enough : length all ≡ n) (at_end : k ≡ n) where
     is_all : take k all ≡ all
     is_all = take_all k all (omega arith)
 
     all_written : Written out₀ at (so_far all) out next
     all_written = written_as (ap so_far is_all) written
 
-    pub index_dash_room : at + length (list_text all) ≤ length out₀ → next + length (dash_for k) ≤ length out
-    index_dash_room h = subst (λ (n : ℕ). next + length (dash_for n) ≤ length out) enough (dash_room all all_written h)
+    pub index_dash_room : at + length (list_text all) ≤ length out₀ → next + length (dash_for n) ≤ length out
+    index_dash_room h = subst (λ (m : ℕ). next + length (dash_for m) ≤ length out) enough (dash_room all all_written h)
 
-    pub index_done : {out' : List ℕ} {next' : ℕ} → Written out next (dash_for k) out' next' → Written out₀ at (list_text all) out' next'
+    pub index_done : {out' : List ℕ} {next' : ℕ} → Written out next (dash_for n) out' next' → Written out₀ at (list_text all) out' next'
     index_done {out'} {next'} w =
-        list_done all all_written (subst (λ (n : ℕ). Written out next (dash_for n) out' next') (sym enough) w)
+        list_done all all_written (subst (λ (m : ℕ). Written out next (dash_for m) out' next') (sym enough) w)
 
 -- ---- what each gives by its number
 

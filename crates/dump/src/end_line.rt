@@ -70,7 +70,7 @@ fn put_queue(out: &mut [u8], at: usize, m: &[u8], e: u8) -> usize
     requires room { at + length (list_text (item_texts (end_at (view m.now) e))) ≤ length out.old }
     ensures { Written out.old at (list_text (item_texts (end_at (view m.now) e))) out.new result }
 {
-    let count = usize::from(ends::queued(m, End(e)));
+    let count = ends::queued(m, End(e)) as usize;
     let mut next = at;
     for k in 0..count {
         next = put_next(out, next, m, e, k);

@@ -57,7 +57,7 @@ pub fn put_values(out: &mut [u8], at: usize, values: [i32; STACK_DEPTH], count: 
     ensures { Written out.old at (values_text (take count values)) out.new result }
 {
     let mut next = at;
-    let shown = usize::from(count);
+    let shown = count as usize;
     for k in 0..shown {
         next = put_value(out, next, k, values[k]);
     }
@@ -71,7 +71,7 @@ fn put_slot(out: &mut [u8], at: usize, shown: usize, c: usize, e: u8) -> usize
 {
     let behind = put_comma(out, at, shown);
     let parted = put_decimal(out, behind, c as u64);
-    put_lettered(out, parted, b':', u64::from(e))
+    put_lettered(out, parted, b':', e as u64)
 }
 
 // The slots that hold an end: in its byte an end's number and one, 0 for an empty slot.

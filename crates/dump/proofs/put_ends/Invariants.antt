@@ -1,5 +1,4 @@
 -- One line after the other. The invariant: the lines of the first e ends stand. Assumes nothing.
-use Rattle.std.proofs.Common.{◌-◌}
 use Rattle.rules.specs.Limits.{end_count}
 use Rattle.rules.specs.Layout.{view}
 use Rattle.dump.specs.Shown.{end_text}

@@ -1,5 +1,4 @@
 -- One line after the other. The invariant: the lines of the first r records stand. Assumes nothing.
-use Rattle.std.proofs.Common.{◌-◌}
 use Rattle.rules.specs.Limits.{record_count}
 use Rattle.rules.specs.Layout.{view}
 use Rattle.dump.specs.Shown.{record_text}

@@ -50,17 +50,13 @@ put_dash-requires c =
     let a = c.args in
     let all = item_texts (end_at (view a.m.now) a.e) in
     let l = c.loop-k in
-    let enough : length all ≡ l.k = omega (
-      arith,
-      counted
-          (goal.at.put_dash-requires c).After-queued-count,
-    ) in
-    index_dash_room all l.k l.invariant.1 enough c.requires.room
+    let enough = counted (goal.at.put_dash-requires c).After-queued-count in
+    index_dash_room all l.k l.invariant.1 enough (omega arith) c.requires.room
 
 pub returns : goal.returns
 returns c =
     let a = c.args in
     let all = item_texts (end_at (view a.m.now) a.e) in
     let l = c.loop-k in
-    let enough : length all ≡ l.k = omega (arith, counted (goal.at.returns c).After-queued-count) in
-    index_done all l.k l.invariant.1 enough c.put_dash.ensures
+    let enough = counted (goal.at.returns c).After-queued-count in
+    index_done all l.k l.invariant.1 enough (omega arith) c.put_dash.ensures

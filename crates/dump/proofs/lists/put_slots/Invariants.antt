@@ -1,6 +1,5 @@
 -- One slot after the other. The invariant: those of the first c slots that hold an end stand. Assumes nothing.
-use Rattle.std.proofs.Common.{◌≡◌, ◌-◌, ◌≤◌, length}
-use Rattle.rules.specs.Limits.{slot_count}
+use Rattle.std.proofs.Common.{◌≡◌, length}
 use Rattle.dump.proofs.HeldSlots.{SlotsSoFar}
 use Rattle.dump.proofs.lists.put_slots.Given as goal
 

@@ -59,13 +59,13 @@ unfolding values_text
 put_dash-requires c =
     let l = c.loop-k in
     let all = value_texts c.args.count c.args.values in
-    let enough : length all ≡ l.k = omega (arith, counted (goal.at.put_dash-requires c).Start) in
-    index_dash_room all l.k l.invariant.1 enough c.requires.room
+    let enough = counted (goal.at.put_dash-requires c).Start in
+    index_dash_room all l.k l.invariant.1 enough (omega arith) c.requires.room
 
 pub returns : goal.returns
 unfolding values_text
 returns c =
     let l = c.loop-k in
     let all = value_texts c.args.count c.args.values in
-    let enough : length all ≡ l.k = omega (arith, counted (goal.at.returns c).Start) in
-    index_done all l.k l.invariant.1 enough c.put_dash.ensures
+    let enough = counted (goal.at.returns c).Start in
+    index_done all l.k l.invariant.1 enough (omega arith) c.put_dash.ensures
