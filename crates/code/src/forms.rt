@@ -95,25 +95,69 @@ pub fn decode_fixed(code: &[u8], place: usize, first: u8, next: usize) -> Option
     requires next_place { (next ≡ place + size_of (form_of first)) × (next ≤ length code.now) }
     ensures { meaning code.now place result ≡ decoded_by_rules code.now place }
 {
-    let instruction = match first {
-        0x01 => Instruction::Cst(signed_at(code, place, 1)),
-        0x02 => Instruction::Access(byte_at(code, place, 1)),
-        0x03 => Instruction::Store,
-        0x04 => Instruction::Add,
-        0x05 => Instruction::Mul,
-        0x06 => Instruction::Leq,
-        0x10 => Instruction::Put(slot_at(code, place, 1)),
-        0x11 => Instruction::Get(slot_at(code, place, 1)),
-        0x12 => split_at(code, place),
-        0x13 => fork_at(code, place),
-        0x14 => plug_at(code, place),
-        0x15 => Instruction::Close(slot_at(code, place, 1)),
-        0x16 => Instruction::Halt(slot_at(code, place, 1)),
-        0x17 => Instruction::Same(slot_at(code, place, 1), slot_at(code, place, 2)),
-        0x18 => Instruction::Hput(slot_at(code, place, 1), byte_at(code, place, 2)),
-        0x19 => return hcase_at(code, place, next),
-        0x1A => return run_at(code, place, next),
-        _ => return None,
-    };
-    Some(Decoded { instruction, next })
+    match first {
+        0x01 => Some(Decoded {
+            instruction: Instruction::Cst(signed_at(code, place, 1)),
+            next,
+        }),
+        0x02 => Some(Decoded {
+            instruction: Instruction::Access(byte_at(code, place, 1)),
+            next,
+        }),
+        0x03 => Some(Decoded {
+            instruction: Instruction::Store,
+            next,
+        }),
+        0x04 => Some(Decoded {
+            instruction: Instruction::Add,
+            next,
+        }),
+        0x05 => Some(Decoded {
+            instruction: Instruction::Mul,
+            next,
+        }),
+        0x06 => Some(Decoded {
+            instruction: Instruction::Leq,
+            next,
+        }),
+        0x10 => Some(Decoded {
+            instruction: Instruction::Put(slot_at(code, place, 1)),
+            next,
+        }),
+        0x11 => Some(Decoded {
+            instruction: Instruction::Get(slot_at(code, place, 1)),
+            next,
+        }),
+        0x12 => Some(Decoded {
+            instruction: split_at(code, place),
+            next,
+        }),
+        0x13 => Some(Decoded {
+            instruction: fork_at(code, place),
+            next,
+        }),
+        0x14 => Some(Decoded {
+            instruction: plug_at(code, place),
+            next,
+        }),
+        0x15 => Some(Decoded {
+            instruction: Instruction::Close(slot_at(code, place, 1)),
+            next,
+        }),
+        0x16 => Some(Decoded {
+            instruction: Instruction::Halt(slot_at(code, place, 1)),
+            next,
+        }),
+        0x17 => Some(Decoded {
+            instruction: Instruction::Same(slot_at(code, place, 1), slot_at(code, place, 2)),
+            next,
+        }),
+        0x18 => Some(Decoded {
+            instruction: Instruction::Hput(slot_at(code, place, 1), byte_at(code, place, 2)),
+            next,
+        }),
+        0x19 => hcase_at(code, place, next),
+        0x1A => run_at(code, place, next),
+        _ => None,
+    }
 }

@@ -52,17 +52,17 @@ pub slot_at-requires-in-17 : goal.slot_at-requires-in-17
 unfolding form_of form_in
 slot_at-requires-in-17 c = omega (arith, room (goal.at.slot_at-requires-in-17 c).Start 0x11 refl c.in-17.is)
 
-pub split_at-instruction-requires : goal.split_at-instruction-requires
+pub split_at-requires : goal.split_at-requires
 unfolding form_of form_in
-split_at-instruction-requires c = omega (arith, room (goal.at.split_at-instruction-requires c).Start 0x12 refl c.in-18.is)
+split_at-requires c = omega (arith, room (goal.at.split_at-requires c).Start 0x12 refl c.in-18.is)
 
-pub fork_at-instruction-requires : goal.fork_at-instruction-requires
+pub fork_at-requires : goal.fork_at-requires
 unfolding form_of form_in
-fork_at-instruction-requires c = omega (arith, room (goal.at.fork_at-instruction-requires c).Start 0x13 refl c.in-19.is)
+fork_at-requires c = omega (arith, room (goal.at.fork_at-requires c).Start 0x13 refl c.in-19.is)
 
-pub plug_at-instruction-requires : goal.plug_at-instruction-requires
+pub plug_at-requires : goal.plug_at-requires
 unfolding form_of form_in
-plug_at-instruction-requires c = omega (arith, room (goal.at.plug_at-instruction-requires c).Start 0x14 refl c.in-20.is)
+plug_at-requires c = omega (arith, room (goal.at.plug_at-requires c).Start 0x14 refl c.in-20.is)
 
 pub slot_at-requires-in-21 : goal.slot_at-requires-in-21
 unfolding form_of form_in
@@ -143,15 +143,15 @@ returns-in-17 c = arm (goal.at.returns-in-17 c).Start 0x11 refl (omega arith) c.
 
 pub returns-in-18 : goal.returns-in-18
 unfolding form_of form_in instruction_at
-returns-in-18 c = arm (goal.at.returns-in-18 c).Start 0x12 refl (omega arith) c.in-18.is c.split_at-instruction.ensures
+returns-in-18 c = arm (goal.at.returns-in-18 c).Start 0x12 refl (omega arith) c.in-18.is c.split_at.ensures
 
 pub returns-in-19 : goal.returns-in-19
 unfolding form_of form_in instruction_at
-returns-in-19 c = arm (goal.at.returns-in-19 c).Start 0x13 refl (omega arith) c.in-19.is c.fork_at-instruction.ensures
+returns-in-19 c = arm (goal.at.returns-in-19 c).Start 0x13 refl (omega arith) c.in-19.is c.fork_at.ensures
 
 pub returns-in-20 : goal.returns-in-20
 unfolding form_of form_in instruction_at
-returns-in-20 c = arm (goal.at.returns-in-20 c).Start 0x14 refl (omega arith) c.in-20.is c.plug_at-instruction.ensures
+returns-in-20 c = arm (goal.at.returns-in-20 c).Start 0x14 refl (omega arith) c.in-20.is c.plug_at.ensures
 
 pub returns-in-21 : goal.returns-in-21
 unfolding form_of form_in instruction_at
