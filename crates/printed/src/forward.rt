@@ -2,7 +2,6 @@
 // from a copy of the memory before it.
 ghost use Rattle.std.specs.Prelude.{◌≡◌, ◌<◌, length};
 ghost use Rattle.rules.specs.Limits.{position_count};
-ghost use Rattle.rules.specs.Instruction.{lengths as lengths_of_rules};
 ghost use Rattle.rules.specs.Run.{next_step};
 ghost use Rattle.rules.specs.Layout.{state_size, view};
 ghost use Rattle.keeping.specs.Demand3.{SoundMemory};
@@ -20,14 +19,14 @@ pub enum Forward {
     Stepped(Printed),
 }
 
-pub fn step_forward(m: &mut [u8], lengths: &[u8; 256], position: u32) -> Forward
+pub fn step_forward(m: &mut [u8], position: u32) -> Forward
     requires m_len { (length m.old ≡ state_size) × (position < position_count) }
-    requires sound_memory { SoundMemory m.old × (lengths.now ≡ lengths_of_rules) }
+    requires sound_memory { SoundMemory m.old }
     ensures { Forwarded m.old (next_step (view m.old) position) result m.new }
 {
     let mut before = [0; STATE_SIZE];
     words::copy(m, &mut before, 0);
-    match step_from(m, lengths, position) {
+    match step_from(m, position) {
         Stepped::Nowhere => Forward::Nowhere,
         Stepped::At(p) => Forward::Stepped(printed_at(&before, p)),
     }
