@@ -62,13 +62,13 @@ read c =
     let s = c.requires.0 in
     c.lowest_free_record.ensures.lowest _ (memory_sized _ s) s.laid_out
 
-pub returns-in_default-lowest_free_record : goal.returns-in_default-lowest_free_record
-returns-in_default-lowest_free_record c next g is =
+pub returns-in_default : goal.returns-in_default
+returns-in_default c next g is =
     let a = c.args in
-    let at = goal.at.returns-in_default-lowest_free_record c in
+    let at = goal.at.returns-in_default c in
     let st = view a.m.now in
     let none = no_record st c.requires.0.state_sound
-    (omega (arith, ap (record_or record_count) c.in_default-lowest_free_record.is, read at.After-lowest_free_record)) in
+    (omega (arith, ap (record_or record_count) c.in_default.is, read at.After-lowest_free_record)) in
     refused_step 15 (no_free_record_lem st a.r.0 next g _ _ _ _ _ (passes (passed at.In_ok-plug) g is) (two at.Else-count-lt2) none)
 
 -- the record that is found is the lowest free one, and is free
