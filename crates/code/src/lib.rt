@@ -72,7 +72,7 @@ pub struct Decoded {
     pub next: usize,
 }
 
-// The instruction at a place with the place after it, if there is one. The table is the caller's, bound once for many decodes.
+// The instruction at a place with the place after it, if there is one.
 pub fn decode(code: &[u8], place: usize) -> Option<Decoded>
     ensures { meaning code.now place result ≡ decoded_by_rules code.now place }
 {

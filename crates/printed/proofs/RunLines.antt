@@ -3,6 +3,8 @@
 use mathlib.Core.Path.{◌≡◌, refl, sym, ap, ◌∙◌}
 use mathlib.Core.Option.{Option, none, some}
 use mathlib.Core.List.{List, [], ◌∷◌, ◌++◌, append_assoc, append-nil}
+use Rattle.std.specs.Prelude.{Option as Maybe, Some, None}
+use Rattle.std.proofs.lemmas.Option.{none-some}
 use Prim.Native.Nat.{ℕ, suc, ◌+◌, ◌*◌, ◌≤◌, ◌<◌}
 use native.Mathlib.Nat.{add-zero}
 use native.Mathlib.Omega.{arith}
@@ -20,11 +22,9 @@ use Rattle.keeping.proofs.StepLaws.{steps_one}
 use Rattle.text.specs.Written.{Written}
 use Rattle.text.proofs.Texts.{written_more, written_as}
 use Rattle.runner.specs.Runs.{stepped_by}
-use Rattle.runner.proofs.Somewhere.{is_somewhere, no_step}
+use Rattle.runner.proofs.Somewhere.{no_step}
 use Rattle.runner.proofs.Making.{MadeSoFar, none_yet, more, none_more, stopped, ended, position_in_range, one_more}
 use Rattle.printed.specs.declared.kinds.Printed.{Printed}
-use Rattle.printed.specs.declared.forward.Forward.{Forward}
-use Rattle.printed.specs.declared.forward.Forward.TheVariants.{Nowhere, Stepped}
 use Rattle.printed.specs.Meaning.{printed_of}
 use Rattle.printed.specs.Forwarded.{Forwarded, step_printed, forward_printed, stepped_in}
 use Rattle.printed.specs.Traced.{line_limit, trace_limit, Traced}
@@ -63,8 +63,8 @@ no_lines m out s = record {
 
 module _ (st : State) (out₀ : List ℕ) (end made next : ℕ) (m out : List ℕ) (lines : LinesSoFar st out₀ end made next m out) where
   -- nothing can step: these are all lines
-  pub lines_end : {answer : Forward} {left : List ℕ} → made ≤ trace_budget → Forwarded m (next_step (view m) next) answer left
-      → answer ≡ Nowhere → Traced st (steps trace_budget st 0) out₀ end made next left out
+  pub lines_end : {answer : Maybe Printed} {left : List ℕ} → made ≤ trace_budget → Forwarded m (next_step (view m) next) answer left
+      → answer ≡ None → Traced st (steps trace_budget st 0) out₀ end made next left out
   lines_end {answer} {left} h f is =
       let nothing = no_step (next_step (view m) next) (ap stepped_in (sym is) ∙ f.made.answer_is) in
       let same : steps made st 0 ≡ steps trace_budget st 0 = sym (none_more st 0 made next m lines.so_far trace_budget h nothing) in
@@ -87,8 +87,8 @@ module _ (st : State) (out₀ : List ℕ) (end made next : ℕ) (m out : List �
       }
 
   -- a step was made, and prints x
-  module _ {answer : Forward} {left : List ℕ} (f : Forwarded m (next_step (view m) next) answer left) (x : Printed)
-      (is : answer ≡ Stepped x) where
+  module _ {answer : Maybe Printed} {left : List ℕ} (f : Forwarded m (next_step (view m) next) answer left) (x : Printed)
+      (is : answer ≡ Some x) where
     pub position_below : x.position < position_count
     position_below =
         position_in_range st 0 made next m lines.so_far x.position f.made.answer_is f.made.memory_is (ap stepped_in is)
@@ -106,7 +106,7 @@ module _ (st : State) (out₀ : List ℕ) (end made next : ℕ) (m out : List �
     one_line h fits {next'} {end'} {out'} e w = go (next_step (view m) next) refl
       where
         go : (y : Option Step) → next_step (view m) next ≡ y → LinesSoFar st out₀ end' (made + 1) next' left out'
-        go none q = absurd (omega (arith, ap is_somewhere (ap stepped_in (sym is) ∙ f.made.answer_is ∙ ap stepped_by q)))
+        go none q = absurd (none-some _ (sym (ap stepped_in (sym is) ∙ f.made.answer_is ∙ ap stepped_by q)))
         go (some s) q =
             let longer : steps (made + 1) st 0 ≡ steps made st 0 ++ s ∷ [] =
             more st 0 made next m lines.so_far 1 ∙ ap (λ (ts : List Step). steps made st 0 ++ ts) (steps_one (view m) next s q) in

@@ -10,24 +10,16 @@ ghost use Rattle.printed.specs.Forwarded.{Forwarded};
 use crate::kinds::Printed;
 use crate::reading::printed_at;
 use rules::offsets::STATE_SIZE;
-use runner::{Stepped, step_from};
+use runner::step_from;
 
-// Nothing can step, or a step was made, and this is what it prints.
-#[derive(Clone, Copy)]
-pub enum Forward {
-    Nowhere,
-    Stepped(Printed),
-}
-
-pub fn step_forward(m: &mut [u8], position: u32) -> Forward
+// The step that is made next, if one can be made: what it prints.
+pub fn step_forward(m: &mut [u8], position: u32) -> Option<Printed>
     requires m_len { (length m.old ≡ state_size) × (position < position_count) }
     requires sound_memory { SoundMemory m.old }
     ensures { Forwarded m.old (next_step (view m.old) position) result m.new }
 {
     let mut before = [0; STATE_SIZE];
     words::copy(m, &mut before, 0);
-    match step_from(m, position) {
-        Stepped::Nowhere => Forward::Nowhere,
-        Stepped::At(p) => Forward::Stepped(printed_at(&before, p)),
-    }
+    let p = step_from(m, position)?;
+    Some(printed_at(&before, p))
 }

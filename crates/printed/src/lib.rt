@@ -11,7 +11,7 @@ mod lines; // lines.rt: a line as text
 mod reading; // reading.rt: what the step at a position prints
 mod tracing; // tracing.rt: the whole text for an image
 
-pub use forward::{Forward, step_forward};
+pub use forward::step_forward;
 pub use kinds::{Kind, Printed};
 pub use lines::{put_last, put_line, put_refused, put_verdict};
 pub use reading::printed_at;

@@ -12,7 +12,7 @@ ghost use Rattle.ends.specs.Items.{item_of};
 ghost use Rattle.printed.specs.Meaning.{PrintsAt, printed_of, item_printed};
 
 use crate::kinds::{Kind, Printed};
-use ends::{Head, Item};
+use ends::Item;
 use rules::{End, RECORD_COUNT, Record};
 
 // Two closes, at an end. The same stands where a position cannot step: there it is never shown.
@@ -85,10 +85,10 @@ fn of_end(m: &[u8], position: u32) -> Printed
     ensures { PrintsAt (view m.now) position result }
 {
     let e = End((position - RECORD_COUNT as u32) as u8);
-    let Head::Item(x) = ends::head(m, e) else {
+    let Some(x) = ends::head(m, e) else {
         return closed(position);
     };
-    let Head::Item(y) = ends::head(m, ends::partner(m, e)) else {
+    let Some(y) = ends::head(m, ends::partner(m, e)) else {
         return closed(position);
     };
     of_items(position, x, y)

@@ -8,7 +8,7 @@ ghost use Rattle.keeping.specs.Demand3.{SoundMemory};
 ghost use Rattle.text.specs.Written.{Written};
 ghost use Rattle.printed.specs.Traced.{trace_limit, Traced};
 
-use crate::forward::{Forward, step_forward};
+use crate::forward::step_forward;
 use crate::lines::{put_last, put_line, put_refused};
 use rules::offsets::STATE_SIZE;
 use runner::{position_after, verdict_of};
@@ -34,19 +34,19 @@ fn put_steps(m: &mut [u8], out: &mut [u8]) -> Lines
         result.next m.new out.new }
 {
     let mut end = 0;
-    let mut made = 0;
     let mut next = 0;
-    while made < TRACE_BUDGET {
-        match step_forward(m, next) {
-            Forward::Nowhere => return Lines { end, made, next },
-            Forward::Stepped(x) => {
-                end = put_line(out, end, made as u32 + 1, x);
-                next = position_after(x.position);
-            }
-        }
-        made += 1;
+    for made in 0..TRACE_BUDGET {
+        let Some(x) = step_forward(m, next) else {
+            return Lines { end, made, next };
+        };
+        end = put_line(out, end, made as u32 + 1, x);
+        next = position_after(x.position);
     }
-    Lines { end, made, next }
+    Lines {
+        end,
+        made: TRACE_BUDGET,
+        next,
+    }
 }
 
 // The lines of a run, and the last one.

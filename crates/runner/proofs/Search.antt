@@ -1,7 +1,6 @@
 -- The search for the next step: which positions are not worth asking, that positions passed over are no part of it, and that it goes up to
 -- the last position and then on from the first. Assumes nothing.
 use mathlib.Core.Path.{◌≡◌, refl, sym, ap, ◌∙◌, subst}
-use mathlib.Core.Logic.{◌≢◌, ⊎_elim}
 use mathlib.Core.Bool.{false}
 use mathlib.Core.Option.{Option, none, some}
 use mathlib.Core.List.{List, [], ◌∷◌}
@@ -10,8 +9,7 @@ use native.Mathlib.Decide.{dec_lt}
 use native.Mathlib.Omega.{arith}
 use lib.Dec.{leb}
 use borrow.Author.Tests.{lt-leb}
-use denote.Enum.Declared.{tag_of}
-use types.Run.{OneOf}
+use denote.Enum.Bare.{sameb}
 use Rattle.rules.specs.Limits.{record_count, end_count, position_count}
 use Rattle.rules.specs.State.{State, Item, RecordState, free_record, running, waiting, EndState, free_end, used}
 use Rattle.rules.specs.State.{record_at, end_at, end_or, partner_of, queue_length, head_of, is_free_end}
@@ -23,6 +21,7 @@ use Rattle.rules.specs.Layout.{view}
 use Rattle.rules.specs.Calls.{layout_or}
 use Rattle.rules.specs.Numbers.{reply_to}
 use Rattle.rules.specs.Promise.{Promise}
+use Rattle.rules.proofs.TestLaws.{true_is_not_false}
 use Rattle.rules.proofs.Promises.{is_refused}
 use Rattle.registers.specs.declared.records.Status.{Status}
 use Rattle.registers.specs.declared.records.Status.TheVariants.{Running}
@@ -39,17 +38,13 @@ use Rattle.runner.proofs.Somewhere.{no_step}
 
 -- ---- positions that are not worth asking
 
--- a status that is one of the other two is not running
-not_running : {s : Status} → OneOf (0 ∷ 2 ∷ []) (tag_of the_type s) → s ≢ Running
-not_running h e = ⊎_elim (λ z. let y : ◌≡◌ {A = ℕ} 1 0 = z in omega arith) (λ z. let y : ◌≡◌ {A = ℕ} 1 2 = z in omega arith) (rw e at h)
-
 pub record_idle : (st : State) (p : ℕ) → p < record_count → {s : Status} → s ≡ status_of (record_at st p)
-    → OneOf (0 ∷ 2 ∷ []) (tag_of the_type s) → is_done (ask st p) ≡ false
+    → sameb the_type s Running ≡ false → is_done (ask st p) ≡ false
 record_idle st p h e other = go (record_at st p) refl
   where
     go : (x : RecordState) → record_at st p ≡ x → is_done (ask st p) ≡ false
     go free_record q = ap is_done (of_a_record st p h ∙ free st p (sym (ap status_of q)))
-    go (running g) q = absurd (not_running other (e ∙ ap status_of q))
+    go (running g) q = true_is_not_false refl (ap (λ (s : Status). sameb the_type s Running) (sym (e ∙ ap status_of q)) ∙ other)
     go (waiting g) q = ap is_done (of_a_record st p h ∙ waits st p (sym (ap status_of q)))
 
 -- a queue with no item has no head

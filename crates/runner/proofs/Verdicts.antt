@@ -1,20 +1,27 @@
 -- The verdict of a state: whether every record is free, record by record, whether every end is, by the word of free ends, and what the
 -- three cases are. Assumes nothing.
 use mathlib.Core.Path.{◌≡◌, refl, sym, ap, ◌∙◌}
-use mathlib.Core.Bool.{Bool, true, false}
+use mathlib.Core.Bool.{Bool, true, false, ◌&&◌}
 use mathlib.Core.Option.{Option, none, some}
 use mathlib.Core.List.{List, [], ◌∷◌}
 use Prim.Native.Nat.{ℕ, zero, suc, ◌+◌, ◌*◌, ◌<◌}
-use native.Mathlib.Nat.{eq-or-lt_of_le, le_of_suc-le-suc}
-use native.Mathlib.Numerals.{add-one}
+use native.Mathlib.Nat.{add-zero}
 use native.Mathlib.Decide.{ℕ_discrete}
 use native.Mathlib.Omega.{arith}
-use mathlib.Core.Logic.{◌≢◌, ⊎_elim}
-use lib.ListN.{length}
+use mathlib.Core.Logic.{◌≢◌}
+use lib.ListN.{length, get_or}
 use lib.Dec.{eqb}
 use borrow.Author.Tests.{eq-eqb, ne_eqb}
+use denote.Enum.Bare.{sameb}
+use Rattle.std.specs.List.{list_all, range_with_len}
 use Rattle.rules.specs.Limits.{end_count}
-use Rattle.rules.specs.State.{State, EndState, free_end, used, is_free_end, is_free_record, record_at}
+use Rattle.rules.specs.State.{State, EndState, free_end, used, is_free_end, is_free_record}
+use Rattle.rules.specs.State.{RecordState, free_record, running, waiting}
+use Rattle.rules.specs.EndStep.{only_if}
+use Rattle.registers.specs.declared.records.Status.{Status}
+use Rattle.registers.specs.declared.records.Status.TheVariants.{Free}
+use Rattle.registers.specs.contracts.records.Status.{the_type}
+use Rattle.registers.specs.Registers.{status_of}
 use Rattle.rules.specs.SoundTest.{all}
 use Rattle.rules.specs.Run.{Step, nothing_in_use, next_step, verdict_of}
 use Rattle.rules.specs.Layout.{free_word}
@@ -25,12 +32,29 @@ use Rattle.runner.specs.Runs.{verdict_code, stepped_by}
 
 -- ---- every record, every end is free
 
--- the first k records are free
-abbrev pub FreeSoFar : State → ℕ → Type 0
-FreeSoFar st k = (j : ℕ) → j < k → is_free_record (record_at st j) ≡ true
+-- a record is free exactly if its status says so
+pub free_told : (x : RecordState) {s : Status} → s ≡ status_of x → sameb the_type s Free ≡ is_free_record x
+free_told free_record e = ap (λ (s : Status). sameb the_type s Free) e
+free_told (running g) e = ap (λ (s : Status). sameb the_type s Free) e
+free_told (waiting g) e = ap (λ (s : Status). sameb the_type s Free) e
 
-pub one_more_free : (st : State) (k : ℕ) → FreeSoFar st k → is_free_record (record_at st k) ≡ true → FreeSoFar st (k + 1)
-one_more_free st k f h j p = ⊎_elim (λ (q : j ≡ k). rw q h) (f j) (eq-or-lt_of_le (le_of_suc-le-suc (rw add-one at p)))
+-- a test on every element of a list is what `all` says of it over the places, counted on from n
+module _ {A : Type 0} (test : A → Bool) (d : A) (f : ℕ → Bool) where
+  joined : (a b : Bool) → (a && b) ≡ only_if a b
+  joined true b = refl
+  joined false b = refl
+
+  places_from : (l : List A) (n : ℕ) → ((k : ℕ) → k < length l → f (n + k) ≡ test (get_or l k d))
+      → list_all f (range_with_len n (length l)) ≡ all test l
+  unfolding all
+  places_from [] n h = refl
+  places_from (x ∷ l) n h =
+      let here : f n ≡ test x = ap f (sym (add-zero n)) ∙ h 0 (omega arith) in
+      (λ i. here i && places_from l (n + 1) (λ k p. ap f (omega arith) ∙ h (suc k) (omega arith)) i) ∙ joined (test x) (all test l)
+
+  pub places_all : (l : List A) {n : ℕ} → length l ≡ n → ((k : ℕ) → f k ≡ test (get_or l k d)) → list_all f (range_with_len 0 n) ≡ all test l
+  places_all l e h =
+      ap (λ (n : ℕ). list_all f (range_with_len 0 n)) (sym e) ∙ places_from l 0 (λ k p. ap f (omega arith) ∙ h k)
 
 -- the word of n ends that are all free
 unfoldable all_set : ℕ → ℕ

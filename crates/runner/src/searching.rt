@@ -31,14 +31,12 @@ fn next_running(m: &[u8], from: u32) -> u32
     requires { (length m.now ≡ state_size) × (from ≤ record_count) × SoundMemory m.now }
     ensures { PassedTo (view m.now) from result record_count }
 {
-    let mut p = from;
-    while p < RECORD_COUNT as u32 {
-        if let Status::Running = registers::status_of(m, Record(p as u8)) {
+    for p in from..RECORD_COUNT as u32 {
+        if registers::status_of(m, Record(p as u8)) == Status::Running {
             return p;
         }
-        p += 1;
     }
-    p
+    RECORD_COUNT as u32
 }
 
 // How many ends, from this one on, cannot step, as one look at the queues of its pair shows; none where both have an item.
@@ -57,7 +55,8 @@ fn passed_from(m: &[u8], end: End) -> u8
     0
 }
 
-// The position of the first end from one on whose pair has two queues with an item; the number of positions where there is none.
+// The position of the first end from one on whose pair has two queues with an item; the number of positions where there is none. A `for`
+// would go on by one end, and this loop goes on by as many as one look passes over.
 fn next_pair(m: &[u8], from: u32) -> u32
     requires { (length m.now ≡ state_size) × (record_count ≤ from) × (from ≤ position_count) × SoundMemory m.now }
     ensures { PassedTo (view m.now) from result position_count }

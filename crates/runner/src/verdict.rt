@@ -25,15 +25,7 @@ fn records_are_free(m: &[u8]) -> bool
     requires { (length m.now ≡ state_size) × SoundMemory m.now }
     ensures { result ≡ all is_free_record (view m.now).records }
 {
-    let mut r = 0;
-    while r < RECORD_COUNT as u8 {
-        match registers::status_of(m, Record(r)) {
-            Status::Free => {}
-            _ => return false,
-        }
-        r += 1;
-    }
-    true
+    (0..RECORD_COUNT as u8).all(|r| registers::status_of(m, Record(r)) == Status::Free)
 }
 
 // No end is in use: every bit of the word of free ends is set.
@@ -49,10 +41,7 @@ fn nothing_in_use(m: &[u8]) -> bool
     requires { (length m.now ≡ state_size) × SoundMemory m.now }
     ensures { result ≡ nothing_in_use (view m.now) }
 {
-    if !records_are_free(m) {
-        return false;
-    }
-    ends_are_free(m)
+    records_are_free(m) && ends_are_free(m)
 }
 
 // Where a step from position 0 would be made, if one would.

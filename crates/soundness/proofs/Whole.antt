@@ -1,6 +1,6 @@
 -- S1 to S5 together: bytes that fail S1 are not those of a sound state, and of bytes that pass it S2 to S5 decide. Assumes nothing.
-use mathlib.Core.Path.{◌≡◌, sym}
-use mathlib.Core.Bool.{Bool, true, false}
+use mathlib.Core.Path.{◌≡◌, refl, sym, ◌∙◌}
+use mathlib.Core.Bool.{Bool, true, false, ◌&&◌}
 use mathlib.Core.List.{List, [], ◌∷◌}
 use Prim.Native.Nat.{ℕ}
 use lib.ListN.{length}
@@ -39,6 +39,14 @@ shown_to : (m : List ℕ) → Shown m → sound_test (view m) ≡ true
 unfolding sound_test all_true
 shown_to m h = both h.0 h.1
 
+joined : (a b c d : Bool) → (a && (b && (c && d))) ≡ all_true (a ∷ b ∷ c ∷ d ∷ [])
+unfolding all_true
+joined true true true true = refl
+joined true true true false = refl
+joined true true false d = refl
+joined true false c d = refl
+joined false b c d = refl
+
 module _ (m : List ℕ) (b : Bytes m) (l : length m ≡ state_size) where
   pub not_sound : canonical_bytes m ≡ false → false ≡ sound_bytes m
   not_sound f = sym (fails (sound_bytes m) (λ h. true_is_not_false (passes h) f))
@@ -58,3 +66,20 @@ module _ (m : List ℕ) (b : Bytes m) (l : length m ≡ state_size) where
 
       from : sound_bytes m ≡ true → all_true (beyond m) ≡ true
       from h = (shown_from m (test_of_sound (view m) (memory_of_test m h).state_sound)).1
+
+  -- the five tests, one behind the other
+  pub sound_is : (canonical_bytes m
+      && (every (paired_test (view m)) end_count
+      && (every (places_test (view m)) end_count
+      && (every (waits_test (view m)) record_count && every (stands_test (view m)) end_count))))
+      ≡ sound_bytes m
+  sound_is = go (canonical_bytes m) refl
+    where
+      go : (t : Bool) → canonical_bytes m ≡ t
+          → (t
+          && (every (paired_test (view m)) end_count
+          && (every (places_test (view m)) end_count
+          && (every (waits_test (view m)) record_count && every (stands_test (view m)) end_count))))
+          ≡ sound_bytes m
+      go true e = joined _ _ _ _ ∙ beyond_decides e
+      go false e = not_sound e

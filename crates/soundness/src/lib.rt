@@ -24,17 +24,9 @@ pub fn is_sound(m: &[u8]) -> bool
     requires { length m.now ≡ state_size }
     ensures { result ≡ sound_bytes m.now }
 {
-    if !is_canonical(m) {
-        return false;
-    }
-    if !ends_are_paired(m) {
-        return false;
-    }
-    if !ends_stand_once(m) {
-        return false;
-    }
-    if !records_are_named_rightly(m) {
-        return false;
-    }
-    waiting_records_stand(m)
+    is_canonical(m)
+        && ends_are_paired(m)
+        && ends_stand_once(m)
+        && records_are_named_rightly(m)
+        && waiting_records_stand(m)
 }

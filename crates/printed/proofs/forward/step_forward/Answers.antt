@@ -17,15 +17,15 @@ pub printed_at-requires : goal.printed_at-requires
 printed_at-requires c =
     let p = c.requires in
     let same = sym (copied (goal.at.printed_at-requires c).After-copy) in
-    let made = told c.step_from.ensures c.in-At.is in (
+    let made = told c.step_from.ensures c.in_ok-p.was in (
       subst (λ (m : List ℕ). length m ≡ state_size) same p.m_len.0,
       position_below c.args.m.now c.args.position made p.m_len.1,
-      subst SoundMemory same p.sound_memory.0,
+      subst SoundMemory same p.sound_memory,
     )
 
-pub returns-in-At : goal.returns-in-At
-returns-in-At c =
+pub returns : goal.returns
+returns c =
     let a = c.args in
-    stepped a.m.now a.position (told c.step_from.ensures c.in-At.is) c.printed_at.result
-    (subst (λ (m : List ℕ). PrintsAt (view m) c.in-At.p c.printed_at.result)
-    (copied (goal.at.returns-in-At c).After-copy) c.printed_at.ensures)
+    stepped a.m.now a.position (told c.step_from.ensures c.in_ok-p.was) c.printed_at.result
+    (subst (λ (m : List ℕ). PrintsAt (view m) c.in_ok-p.p c.printed_at.result)
+    (copied (goal.at.returns c).After-copy) c.printed_at.ensures)

@@ -35,7 +35,7 @@ partner_here : (c : After-partner) (head_here_here : let a = c.args in
 partner_here c head_here_here =
     let m = c.args.m.now in
     let s = c.requires.3 in
-    let own = head_here_here ∙ ap head_in c.in-Item.is in
+    let own = head_here_here ∙ ap head_in c.in-Some.is in
     let e = c.args.position - record_count in
     partner_shown (view m) s.state_sound e (head_in_use (end_at (view m) e) own)
     (c.partner.ensures (view m) (memory_sized m s) s.laid_out)
@@ -52,7 +52,7 @@ head_there c =
 pub returns-in_default-head : goal.returns-in_default-head
 returns-in_default-head c z h =
     let a = c.args in
-    let own = head_here (goal.at.returns-in_default-head c).After-head ∙ ap head_in c.in-Item.is in
+    let own = head_here (goal.at.returns-in_default-head c).After-head ∙ ap head_in c.in-Some.is in
     let empty = head_there (goal.at.returns-in_default-head c).After-head-2 ∙ ap head_in c.in_default-head.is in
     partner_empty (view a.m.now) a.position _ _ _ z c.requires.1 refl own (partner_here (goal.at.returns-in_default-head c).After-partner
     (head_here (goal.at.returns-in_default-head c).After-head)).0 empty h
@@ -60,8 +60,8 @@ returns-in_default-head c z h =
 pub returns : goal.returns
 returns c z h =
     let a = c.args in
-    let own = head_here (goal.at.returns c).After-head ∙ ap head_in c.in-Item.is in
-    let other = head_there (goal.at.returns c).After-head-2 ∙ ap head_in c.in-Item-head.is in
+    let own = head_here (goal.at.returns c).After-head ∙ ap head_in c.in-Some.is in
+    let other = head_there (goal.at.returns c).After-head-2 ∙ ap head_in c.in-Some-head.is in
     let met = end_prints (view a.m.now) a.position _ _ _ _ z c.requires.1 refl own (partner_here (goal.at.returns c).After-partner
     (head_here (goal.at.returns c).After-head)).0 other h in
     c.of_items.ensures (view a.m.now) _ _ z met

@@ -4,7 +4,7 @@ use Rattle.keeping.proofs.Memories.{memory_length}
 use Rattle.runner.proofs.Making.{memory_sound}
 use Rattle.printed.proofs.RunLines.{no_lines, lines_end, position_below, line_room, one_line}
 use Rattle.printed.proofs.tracing.put_steps.Goals as goal
-use Rattle.printed.proofs.tracing.put_steps.Goals.{In-Stepped}
+use Rattle.printed.proofs.tracing.put_steps.Goals.{In-Some}
 
 pub loop-made-init : goal.loop-made-init
 loop-made-init c = (omega arith, refl, refl, no_lines c.args.m.now c.args.out.now c.requires.0)
@@ -15,33 +15,33 @@ step_forward-requires c =
     let s = memory_sound _ _ _ _ _ f in
     record {
       m_len = (memory_length _ s, f.in_range);
-      sound_memory = (s, c.requires.1);
+      sound_memory = s;
     }
 
-pub returns-in-Nowhere : goal.returns-in-Nowhere
-returns-in-Nowhere c =
+pub returns-in_default : goal.returns-in_default
+returns-in_default c =
     let l = c.loop-made in
-    lines_end _ _ _ _ _ _ _ l.invariant.3 l.invariant.0 c.step_forward.ensures c.in-Nowhere.is
+    lines_end _ _ _ _ _ _ _ l.invariant.3 l.invariant.0 c.step_forward.ensures c.in_default.is
 
 -- the number of what is printed has 32 bits
-number_fits : (c : In-Stepped) → SFits w32 c.in-Stepped.x.number
+number_fits : (c : In-Some) → SFits w32 c.in-Some.x.number
 number_fits c = search rules
 
 pub put_line-end-requires : goal.put_line-end-requires
 put_line-end-requires c =
     let l = c.loop-made in
-    let limit = c.requires.2 in
-    line_room _ _ _ _ _ _ _ l.invariant.3 c.step_forward.ensures _ c.in-Stepped.is c.loop-made-test.true
-    (number_fits (goal.at.put_line-end-requires c).In-Stepped) limit l.invariant.2
+    let limit = c.requires.1 in
+    line_room _ _ _ _ _ _ _ l.invariant.3 c.step_forward.ensures _ c.in-Some.is c.loop-made-test.true
+    (number_fits (goal.at.put_line-end-requires c).In-Some) limit l.invariant.2
 
 pub position_after-next-requires : goal.position_after-next-requires
 position_after-next-requires c =
     let l = c.loop-made in
-    position_below _ _ _ _ _ _ _ l.invariant.3 c.step_forward.ensures _ c.in-Stepped.is
+    position_below _ _ _ _ _ _ _ l.invariant.3 c.step_forward.ensures _ c.in-Some.is
 
 pub loop-made-preserved : goal.loop-made-preserved
 loop-made-preserved c =
     let l = c.loop-made in
-    let one = one_line _ _ _ _ _ _ _ l.invariant.3 c.step_forward.ensures _ c.in-Stepped.is c.loop-made-test.true
-    (number_fits (goal.at.loop-made-preserved c).In-Stepped) c.position_after-next.ensures c.put_line-end.ensures in
+    let one = one_line _ _ _ _ _ _ _ l.invariant.3 c.step_forward.ensures _ c.in-Some.is c.loop-made-test.true
+    (number_fits (goal.at.loop-made-preserved c).In-Some) c.position_after-next.ensures c.put_line-end.ensures in
     (omega (arith, c.loop-made-test.true), omega arith, omega arith, one)

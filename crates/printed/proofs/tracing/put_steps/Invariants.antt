@@ -1,5 +1,5 @@
 -- The lines one after the other. The invariant: those of the steps made so far stand in the buffer. Assumes nothing.
-use Rattle.std.proofs.Common.{◌≡◌, ◌-◌, ◌≤◌, length}
+use Rattle.std.proofs.Common.{◌≡◌, ◌≤◌, length}
 use Rattle.rules.specs.Printed.{trace_budget}
 use Rattle.rules.specs.Layout.{view}
 use Rattle.printed.proofs.RunLines.{LinesSoFar}
@@ -8,6 +8,3 @@ use Rattle.printed.proofs.tracing.put_steps.Given as goal
 abbrev pub invariant-loop-made : goal.invariant-loop-made
 invariant-loop-made l = (l.made ≤ trace_budget) × (length l.m ≡ length l.initial.m) × (length l.out ≡ length l.initial.out)
     × LinesSoFar (view l.initial.m) l.initial.out l.end l.made l.next l.m l.out
-
-abbrev pub decreases-loop-made : goal.decreases-loop-made
-decreases-loop-made l = trace_budget - l.made
