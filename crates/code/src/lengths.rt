@@ -261,7 +261,7 @@ pub const LENGTHS: [u8; 256] = [
     0, // FF
 ];
 
-// The table as a value: a caller binds it once and lends it to every decode.
+// The table as a value.
 pub fn length_table() -> [u8; 256]
     ensures { result ≡ lengths }
 {
@@ -269,9 +269,8 @@ pub fn length_table() -> [u8; 256]
 }
 
 // The table's row of a first byte.
-pub(crate) fn fixed_length(table: &[u8; 256], first: u8) -> u8
-    requires { table.now ≡ lengths }
+pub(crate) fn fixed_length(first: u8) -> u8
     ensures { result ≡ size_of (form_of first) }
 {
-    table[first as usize]
+    length_table()[first as usize]
 }

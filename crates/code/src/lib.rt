@@ -4,7 +4,7 @@
 #![tactic(auto)]
 
 ghost use Rattle.std.specs.Prelude.{◌≡◌};
-ghost use Rattle.rules.specs.Instruction.{lengths as lengths_of_rules, decode as decoded_by_rules};
+ghost use Rattle.rules.specs.Instruction.{decode as decoded_by_rules};
 ghost use Rattle.code.specs.Meaning.{meaning};
 
 use lengths::fixed_length;
@@ -72,16 +72,15 @@ pub struct Decoded {
     pub next: usize,
 }
 
-// The instruction at a place with the place after it, if there is one. The table is the caller's, bound once for many decodes.
-pub fn decode(lengths: &[u8; 256], code: &[u8], place: usize) -> Option<Decoded>
-    requires { lengths.now ≡ lengths_of_rules }
+// The instruction at a place with the place after it, if there is one.
+pub fn decode(code: &[u8], place: usize) -> Option<Decoded>
     ensures { meaning code.now place result ≡ decoded_by_rules code.now place }
 {
     if code.len() <= place {
         return None;
     }
     let first = byte_at(code, place, 0);
-    let size = fixed_length(lengths, first) as usize;
+    let size = fixed_length(first) as usize;
     if code.len() - place < size {
         return None;
     }

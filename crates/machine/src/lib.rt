@@ -40,8 +40,7 @@ pub fn ask_record(state: &mut [u8], record: u32) -> Result<(), Refusal>
         (answer_of result) state.new }
 {
     tested(state)?;
-    let lengths = code::length_table();
-    asking::step_record(state, &lengths, record)
+    asking::step_record(state, record)
 }
 
 // An end is asked to step: 24, 1, 16 to 19, or done. Any number may be asked.
@@ -50,8 +49,7 @@ pub fn ask_end(state: &mut [u8], end: u32) -> Result<(), Refusal>
         (answer_of result) state.new }
 {
     tested(state)?;
-    let lengths = code::length_table();
-    asking::step_end(state, &lengths, end)
+    asking::step_end(state, end)
 }
 
 // How many ends are free, and the lowest: 24, 1, or both numbers.

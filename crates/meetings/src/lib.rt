@@ -9,7 +9,6 @@ ghost use Rattle.std.proofs.Math.Option.{some};
 ghost use Rattle.rules.specs.Limits.{end_count};
 ghost use Rattle.rules.specs.Numbers.{end_number};
 ghost use Rattle.rules.specs.State.{end_at, head_of};
-ghost use Rattle.rules.specs.Instruction.{lengths as lengths_of_rules};
 ghost use Rattle.rules.specs.EndStep.{meet_heads};
 ghost use Rattle.rules.specs.Layout.{view};
 ghost use Rattle.keeping.specs.Demand3.{SoundMemory};
@@ -25,8 +24,8 @@ mod wanted; // wanted.rt: what a waiting record wants
 mod steps; // steps.rt: a datum delivered, a split divided, two closes
 
 // Two items at the heads of e and f: 18, 19, or the step.
-fn meet(m: &mut [u8], lengths: &[u8; 256], e: End, f: End, x: Item, y: Item) -> Result<(), Refusal>
-    requires sound_memory { SoundMemory m.old × (lengths.now ≡ lengths_of_rules) × (end_number e < end_count) × (end_number f < end_count) }
+fn meet(m: &mut [u8], e: End, f: End, x: Item, y: Item) -> Result<(), Refusal>
+    requires sound_memory { SoundMemory m.old × (end_number e < end_count) × (end_number f < end_count) }
     requires heads { (head_of (end_at (view m.old) (end_number e)) ≡ some (item_of x))
         × (head_of (end_at (view m.old) (end_number f)) ≡ some (item_of y)) }
     ensures { Met m.old (end_number e) (end_number f)
@@ -39,19 +38,19 @@ fn meet(m: &mut [u8], lengths: &[u8; 256], e: End, f: End, x: Item, y: Item) -> 
             to,
             datum,
             record,
-        } => steps::deliver(m, lengths, from, to, datum, record),
+        } => steps::deliver(m, from, to, datum, record),
         Meeting::Divides {
             first,
             second,
             record,
-        } => steps::divide(m, lengths, e, f, first, second, record),
+        } => steps::divide(m, e, f, first, second, record),
         Meeting::Closes => steps::close(m, e, f),
     }
 }
 
 // An end is asked to step: 16, 17, 18, 19, or the step. Any number may be asked.
-pub fn step_end(m: &mut [u8], lengths: &[u8; 256], end: u32) -> Result<(), Refusal>
-    requires { SoundMemory m.old × (lengths.now ≡ lengths_of_rules) }
+pub fn step_end(m: &mut [u8], end: u32) -> Result<(), Refusal>
+    requires { SoundMemory m.old }
     ensures { EndStepped m.old end result m.new }
 {
     if END_COUNT as u32 <= end {
@@ -68,5 +67,5 @@ pub fn step_end(m: &mut [u8], lengths: &[u8; 256], end: u32) -> Result<(), Refus
     let Some(y) = ends::head(m, f) else {
         return Err(Refusal::QueueEmpty);
     };
-    meet(m, lengths, e, f, x, y)
+    meet(m, e, f, x, y)
 }

@@ -4,7 +4,6 @@ ghost use Rattle.std.specs.Prelude.{◌≡◌, ◌≢◌, ◌<◌, length};
 ghost use Rattle.rules.specs.Limits.{end_count, record_count};
 ghost use Rattle.rules.specs.Numbers.{end_number, record_number};
 ghost use Rattle.rules.specs.State.{State, Registers as Process, value, handle, running, end_at, set_record, set_end, behind_head};
-ghost use Rattle.rules.specs.Instruction.{lengths as lengths_of_rules};
 ghost use Rattle.rules.specs.EndStep.{closes, freed};
 ghost use Rattle.rules.specs.Layout.{state_size, layout, view};
 ghost use Rattle.keeping.specs.Demand3.{SoundMemory};
@@ -35,20 +34,13 @@ fn take_both(m: &mut [u8], from: End, to: End, r: Record, x: Registers)
 }
 
 // A value against a get: the record runs on after the get, value pushed.
-fn deliver_value(
-    m: &mut [u8],
-    lengths: &[u8; 256],
-    from: End,
-    to: End,
-    v: i32,
-    r: Record,
-) -> Result<(), Refusal>
-    requires sound_memory { SoundMemory m.old × (lengths.now ≡ lengths_of_rules) }
+fn deliver_value(m: &mut [u8], from: End, to: End, v: i32, r: Record) -> Result<(), Refusal>
+    requires sound_memory { SoundMemory m.old }
     requires datum_waits { DatumWaits (view m.old) (end_number from) (end_number to) (value v) (record_number r) }
     ensures { DatumMet m.old (end_number from) (end_number to) (record_number r) (value v) result m.new }
 {
     let held = registers::load(m, r);
-    let Some(Wanted::Value(next)) = wanted_at(m, lengths, held.place) else {
+    let Some(Wanted::Value(next)) = wanted_at(m, held.place) else {
         return Err(Refusal::HeadsMismatch);
     };
     let pushed = held.push(v);
@@ -57,20 +49,13 @@ fn deliver_value(
 }
 
 // A handle n against an hcase of k places with n < k: the record runs at place n.
-fn deliver_handle(
-    m: &mut [u8],
-    lengths: &[u8; 256],
-    from: End,
-    to: End,
-    n: u8,
-    r: Record,
-) -> Result<(), Refusal>
-    requires sound_memory { SoundMemory m.old × (lengths.now ≡ lengths_of_rules) }
+fn deliver_handle(m: &mut [u8], from: End, to: End, n: u8, r: Record) -> Result<(), Refusal>
+    requires sound_memory { SoundMemory m.old }
     requires datum_waits { DatumWaits (view m.old) (end_number from) (end_number to) (handle n) (record_number r) }
     ensures { DatumMet m.old (end_number from) (end_number to) (record_number r) (handle n) result m.new }
 {
     let held = registers::load(m, r);
-    let Some(Wanted::Handle(k)) = wanted_at(m, lengths, held.place) else {
+    let Some(Wanted::Handle(k)) = wanted_at(m, held.place) else {
         return Err(Refusal::HeadsMismatch);
     };
     if k <= n {
@@ -82,22 +67,15 @@ fn deliver_handle(
 }
 
 // The datum at the head of `from` meets the wait of record r at the head of `to`.
-pub fn deliver(
-    m: &mut [u8],
-    lengths: &[u8; 256],
-    from: End,
-    to: End,
-    datum: Datum,
-    r: Record,
-) -> Result<(), Refusal>
-    requires sound_memory { SoundMemory m.old × (lengths.now ≡ lengths_of_rules) }
+pub fn deliver(m: &mut [u8], from: End, to: End, datum: Datum, r: Record) -> Result<(), Refusal>
+    requires sound_memory { SoundMemory m.old }
     requires datum_waits { DatumWaits (view m.old) (end_number from) (end_number to) (datum_of datum) (record_number r) }
     ensures { DatumMet m.old (end_number from) (end_number to) (record_number r) (datum_of datum)
         result m.new }
 {
     match datum {
-        Datum::Value(v) => deliver_value(m, lengths, from, to, v, r),
-        Datum::Handle(n) => deliver_handle(m, lengths, from, to, n, r),
+        Datum::Value(v) => deliver_value(m, from, to, v, r),
+        Datum::Handle(n) => deliver_handle(m, from, to, n, r),
     }
 }
 
@@ -129,14 +107,13 @@ fn free_and_run(m: &mut [u8], e: End, f: End, r: Record, x: Registers, new: Reco
 // no record is free.
 pub fn divide(
     m: &mut [u8],
-    lengths: &[u8; 256],
     e: End,
     f: End,
     first: End,
     second: End,
     r: Record,
 ) -> Result<(), Refusal>
-    requires sound_memory { SoundMemory m.old × (lengths.now ≡ lengths_of_rules) × (end_number e < end_count) × (end_number f < end_count) }
+    requires sound_memory { SoundMemory m.old × (end_number e < end_count) × (end_number f < end_count) }
     requires no_data { NoData (view m.old) (end_number e) (end_number f)
         × SplitWaits (view m.old) (end_number first) (end_number second) (record_number r) }
     ensures { SplitMet m.old (end_number e) (end_number f) (end_number first) (end_number second) (record_number r)
@@ -150,7 +127,7 @@ pub fn divide(
             b,
             second: two,
         },
-    ) = wanted_at(m, lengths, held.place)
+    ) = wanted_at(m, held.place)
     else {
         return Err(Refusal::HeadsMismatch);
     };

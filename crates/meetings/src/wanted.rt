@@ -1,7 +1,7 @@
 // What a waiting record wants: get, hcase and fork wait, nothing else does. In a sound state a record that a wait names stands at one of
 // these.
 ghost use Rattle.std.specs.Prelude.{◌≡◌, List, ℕ};
-ghost use Rattle.rules.specs.Instruction.{lengths as lengths_of_rules, decode as decoded_by_rules};
+ghost use Rattle.rules.specs.Instruction.{decode as decoded_by_rules};
 ghost use Rattle.rules.specs.EndStep.{wait_of, decoded_wait};
 ghost use Rattle.rules.specs.Layout.{view};
 ghost use Rattle.keeping.specs.Demand3.{SoundMemory};
@@ -51,11 +51,11 @@ fn wanted_by(instruction: Instruction, next: u16) -> Option<Wanted>
 }
 
 // What a record wants that waits at a place, if one waits there.
-pub fn wanted_at(m: &[u8], lengths: &[u8; 256], place: u16) -> Option<Wanted>
-    requires { SoundMemory m.now × (lengths.now ≡ lengths_of_rules) }
+pub fn wanted_at(m: &[u8], place: u16) -> Option<Wanted>
+    requires { SoundMemory m.now }
     ensures { wanted_of (view m.now).code place result
         ≡ wanted_by (decoded_wait (decoded_by_rules (view m.now).code place)) }
 {
-    let decoded = code::decode(lengths, stepping::code(m), place as usize)?;
+    let decoded = code::decode(stepping::code(m), place as usize)?;
     wanted_by(decoded.instruction, decoded.next as u16)
 }

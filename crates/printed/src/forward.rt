@@ -2,7 +2,6 @@
 // from a copy of the memory before it.
 ghost use Rattle.std.specs.Prelude.{◌≡◌, ◌<◌, length};
 ghost use Rattle.rules.specs.Limits.{position_count};
-ghost use Rattle.rules.specs.Instruction.{lengths as lengths_of_rules};
 ghost use Rattle.rules.specs.Run.{next_step};
 ghost use Rattle.rules.specs.Layout.{state_size, view};
 ghost use Rattle.keeping.specs.Demand3.{SoundMemory};
@@ -14,13 +13,13 @@ use rules::offsets::STATE_SIZE;
 use runner::step_from;
 
 // The step that is made next, if one can be made: what it prints.
-pub fn step_forward(m: &mut [u8], lengths: &[u8; 256], position: u32) -> Option<Printed>
+pub fn step_forward(m: &mut [u8], position: u32) -> Option<Printed>
     requires m_len { (length m.old ≡ state_size) × (position < position_count) }
-    requires sound_memory { SoundMemory m.old × (lengths.now ≡ lengths_of_rules) }
+    requires sound_memory { SoundMemory m.old }
     ensures { Forwarded m.old (next_step (view m.old) position) result m.new }
 {
     let mut before = [0; STATE_SIZE];
     words::copy(m, &mut before, 0);
-    let p = step_from(m, lengths, position)?;
+    let p = step_from(m, position)?;
     Some(printed_at(&before, p))
 }

@@ -1,7 +1,6 @@
 // All that the printing program writes for an image, into a lent buffer that has room for the longest: a line for each step of the run
 // from position 0, then the verdict; or one line for an image that is refused. The text is `trace_text` of `rules`, whatever the image.
 ghost use Rattle.std.specs.Prelude.{◌≡◌, ◌≤◌, length};
-ghost use Rattle.rules.specs.Instruction.{lengths as lengths_of_rules};
 ghost use Rattle.rules.specs.Run.{steps};
 ghost use Rattle.rules.specs.Printed.{trace_budget, run_text, trace_text};
 ghost use Rattle.rules.specs.Layout.{view};
@@ -29,15 +28,15 @@ struct Lines {
 }
 
 // The lines of the steps of a run.
-fn put_steps(m: &mut [u8], lengths: &[u8; 256], out: &mut [u8]) -> Lines
-    requires { SoundMemory m.old × (lengths.now ≡ lengths_of_rules) × (trace_limit ≤ length out.old) }
+fn put_steps(m: &mut [u8], out: &mut [u8]) -> Lines
+    requires { SoundMemory m.old × (trace_limit ≤ length out.old) }
     ensures { Traced (view m.old) (steps trace_budget (view m.old) 0) out.old result.end result.made
         result.next m.new out.new }
 {
     let mut end = 0;
     let mut next = 0;
     for made in 0..TRACE_BUDGET {
-        let Some(x) = step_forward(m, lengths, next) else {
+        let Some(x) = step_forward(m, next) else {
             return Lines { end, made, next };
         };
         end = put_line(out, end, made as u32 + 1, x);
@@ -57,9 +56,8 @@ fn put_run(m: &mut [u8], out: &mut [u8]) -> usize
         out.new result }
     ensures within { result ≤ trace_limit }
 {
-    let lengths = code::length_table();
-    let lines = put_steps(m, &lengths, out);
-    let verdict = verdict_of(m, &lengths);
+    let lines = put_steps(m, out);
+    let verdict = verdict_of(m);
     put_last(out, lines.end, verdict, lines.made, lines.next)
 }
 

@@ -1,7 +1,6 @@
 // A run: steps in their order, counted.
 ghost use Rattle.std.specs.Prelude.{◌≡◌, ◌<◌, length};
 ghost use Rattle.rules.specs.Limits.{position_count};
-ghost use Rattle.rules.specs.Instruction.{lengths as lengths_of_rules};
 ghost use Rattle.rules.specs.Run.{steps};
 ghost use Rattle.rules.specs.Layout.{state_size, view};
 ghost use Rattle.rules.specs.Calls.{run_answer, call_run};
@@ -30,15 +29,15 @@ struct Count {
 }
 
 // The steps of a run.
-fn make_steps(m: &mut [u8], lengths: &[u8; 256], budget: u16, start: u32) -> Count
+fn make_steps(m: &mut [u8], budget: u16, start: u32) -> Count
     requires m_len { (length m.old ≡ state_size) × (start < position_count) }
-    requires sound_memory { SoundMemory m.old × (lengths.now ≡ lengths_of_rules) }
+    requires sound_memory { SoundMemory m.old }
     ensures { Ended (view m.old) start (steps budget (view m.old) start) result.made result.next
         m.new }
 {
     let mut next = start;
     for made in 0..budget {
-        let Some(p) = step_from(m, lengths, next) else {
+        let Some(p) = step_from(m, next) else {
             return Count { made, next };
         };
         next = position_after(p);
@@ -55,11 +54,10 @@ pub fn run(state: &mut [u8], budget: u16, start: u32) -> Result<Ran, Refusal>
     if POSITION_COUNT as u32 <= start {
         return Err(Refusal::StartPosition);
     }
-    let lengths = code::length_table();
-    let count = make_steps(state, &lengths, budget, start);
+    let count = make_steps(state, budget, start);
     Ok(Ran {
         steps: count.made,
         next: count.next as u8,
-        verdict: verdict_of(state, &lengths),
+        verdict: verdict_of(state),
     })
 }

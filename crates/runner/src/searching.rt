@@ -6,7 +6,6 @@ ghost use Rattle.rules.specs.Limits.{record_count, end_count, position_count};
 ghost use Rattle.rules.specs.Numbers.{end_number};
 ghost use Rattle.rules.specs.Refusal.{is_done};
 ghost use Rattle.rules.specs.Ask.{ask_end};
-ghost use Rattle.rules.specs.Instruction.{lengths as lengths_of_rules};
 ghost use Rattle.rules.specs.Run.{next_position, first_of, next_step};
 ghost use Rattle.rules.specs.Layout.{state_size, view};
 ghost use Rattle.rules.specs.Promise.{Promise};
@@ -90,15 +89,15 @@ fn next_candidate(m: &[u8], from: u32) -> u32
 
 // The step of the first position from one on and below another that can step: that position, if there is one. The loop goes from candidate
 // to candidate, and so counts nothing.
-fn step_between(m: &mut [u8], lengths: &[u8; 256], from: u32, to: u32) -> Option<u32>
+fn step_between(m: &mut [u8], from: u32, to: u32) -> Option<u32>
     requires m_len { (length m.old ≡ state_size) × (from ≤ to) × (to ≤ position_count) }
-    requires sound_memory { SoundMemory m.old × (lengths.now ≡ lengths_of_rules) }
+    requires sound_memory { SoundMemory m.old }
     ensures { Promise (stepped_by (first_of (to - from) (view m.old) from))
         (memory_by m.old (first_of (to - from) (view m.old) from)) result m.new }
 {
     let mut p = next_candidate(m, from);
     while p < to {
-        if let Ok(()) = asking::step(m, lengths, p) {
+        if let Ok(()) = asking::step(m, p) {
             return Some(p);
         }
         p = next_candidate(m, p + 1);
@@ -107,15 +106,15 @@ fn step_between(m: &mut [u8], lengths: &[u8; 256], from: u32, to: u32) -> Option
 }
 
 // The step of the first of all positions, from one on and going around, that can step: that position, if there is one.
-pub fn step_from(m: &mut [u8], lengths: &[u8; 256], position: u32) -> Option<u32>
+pub fn step_from(m: &mut [u8], position: u32) -> Option<u32>
     requires m_len { (length m.old ≡ state_size) × (position < position_count) }
-    requires sound_memory { SoundMemory m.old × (lengths.now ≡ lengths_of_rules) }
+    requires sound_memory { SoundMemory m.old }
     ensures { Promise (stepped_by (next_step (view m.old) position))
         (memory_by m.old (next_step (view m.old) position)) result m.new }
 {
     // no `or_else`: its contract says nothing of the memory that the closure would change
-    match step_between(m, lengths, position, POSITION_COUNT as u32) {
+    match step_between(m, position, POSITION_COUNT as u32) {
         Some(p) => Some(p),
-        None => step_between(m, lengths, 0, position),
+        None => step_between(m, 0, position),
     }
 }

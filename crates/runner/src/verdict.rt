@@ -2,7 +2,6 @@
 // tried on a copy of the memory, so that no second set of tests stands beside the steps themselves.
 ghost use Rattle.std.specs.Prelude.{◌≡◌, true, length};
 ghost use Rattle.rules.specs.State.{is_free_end, is_free_record};
-ghost use Rattle.rules.specs.Instruction.{lengths as lengths_of_rules};
 ghost use Rattle.rules.specs.SoundTest.{all};
 ghost use Rattle.rules.specs.Run.{next_step, nothing_in_use, verdict_of};
 ghost use Rattle.rules.specs.Layout.{state_size, view};
@@ -46,20 +45,20 @@ fn nothing_in_use(m: &[u8]) -> bool
 }
 
 // Where a step from position 0 would be made, if one would.
-fn would_step(m: &[u8], lengths: &[u8; 256]) -> Option<u32>
-    requires { (length m.now ≡ state_size) × SoundMemory m.now × (lengths.now ≡ lengths_of_rules) }
+fn would_step(m: &[u8]) -> Option<u32>
+    requires { (length m.now ≡ state_size) × SoundMemory m.now }
     ensures { result ≡ stepped_by (next_step (view m.now) 0) }
 {
     let mut trial = [0; STATE_SIZE];
     words::copy(m, &mut trial, 0);
-    step_from(&mut trial, lengths, 0)
+    step_from(&mut trial, 0)
 }
 
-pub fn verdict_of(m: &[u8], lengths: &[u8; 256]) -> Verdict
-    requires { (length m.now ≡ state_size) × SoundMemory m.now × (lengths.now ≡ lengths_of_rules) }
+pub fn verdict_of(m: &[u8]) -> Verdict
+    requires { (length m.now ≡ state_size) × SoundMemory m.now }
     ensures { result ≡ verdict_code (verdict_of (view m.now)) }
 {
-    if would_step(m, lengths).is_some() {
+    if would_step(m).is_some() {
         return Verdict::Spent;
     }
     if nothing_in_use(m) {

@@ -3,7 +3,6 @@ ghost use Rattle.std.specs.Prelude.{◌≡◌, true, List, ℕ, ◌<◌, length}
 ghost use Rattle.rules.specs.Limits.{record_count, end_count};
 ghost use Rattle.rules.specs.State.{Registers as Process, record_at, slot_at};
 ghost use Rattle.rules.specs.Refusal.{is_done};
-ghost use Rattle.rules.specs.Instruction.{lengths as lengths_of_rules};
 ghost use Rattle.rules.specs.Causes.{names};
 ghost use Rattle.rules.specs.EndStep.{wait_of, only_if};
 ghost use Rattle.rules.specs.Sound.{RegistersWithin};
@@ -15,7 +14,7 @@ ghost use Rattle.registers.specs.Registers.{registers_of};
 ghost use Rattle.canonical.specs.Canonical.{canonical_bytes};
 
 use crate::lasts::{Last, last_of};
-use code::{Instruction, decode, length_table};
+use code::{Instruction, decode};
 use registers::{Registers, Status};
 use rules::{END_COUNT, End, Record, Refusal, Slot};
 
@@ -56,9 +55,8 @@ fn stands_named(held: Registers, e: End, i: Instruction) -> bool
 }
 
 // Record r waits, and it stands where it waits for end e.
-fn stands_at(m: &[u8], lengths: &[u8; 256], e: End, r: Record) -> bool
+fn stands_at(m: &[u8], e: End, r: Record) -> bool
     requires m_len { (length m.now ≡ state_size) × (canonical_bytes m.now ≡ true) × (record_number r < record_count) }
-    requires length_table { lengths.now ≡ lengths_of_rules }
     ensures { result ≡ stands_in (view m.now).code (end_number e) (record_at (view m.now) (record_number r)) }
 {
     let Status::Waiting = registers::status_of(m, r) else {
@@ -66,28 +64,26 @@ fn stands_at(m: &[u8], lengths: &[u8; 256], e: End, r: Record) -> bool
     };
     let held = registers::load(m, r);
     let place = held.place as usize;
-    let Some(decoded) = decode(lengths, memory::code(m), place) else {
+    let Some(decoded) = decode(memory::code(m), place) else {
         return false;
     };
     stands_named(held, e, decoded.instruction)
 }
 
 // A record that the last item of end e's queue names stands at that end.
-fn last_stands(m: &[u8], lengths: &[u8; 256], e: u8) -> bool
+fn last_stands(m: &[u8], e: u8) -> bool
     requires m_len { (length m.now ≡ state_size) × (canonical_bytes m.now ≡ true) × (e < end_count) }
-    requires length_table { lengths.now ≡ lengths_of_rules }
     ensures { result ≡ stands_test (view m.now) e }
 {
     let Some(Last::Wait(r)) = last_of(m, e as usize) else {
         return true;
     };
-    stands_at(m, lengths, End(e), r)
+    stands_at(m, End(e), r)
 }
 
 pub fn waiting_records_stand(m: &[u8]) -> bool
     requires { (length m.now ≡ state_size) × (canonical_bytes m.now ≡ true) }
     ensures { result ≡ every (stands_test (view m.now)) end_count }
 {
-    let lengths = length_table();
-    (0..END_COUNT as u8).all(|e| last_stands(m, &lengths, e))
+    (0..END_COUNT as u8).all(|e| last_stands(m, e))
 }

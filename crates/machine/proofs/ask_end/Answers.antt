@@ -12,7 +12,7 @@ returns-in_err-tested c =
 pub step_end-requires : goal.step_end-requires
 step_end-requires c =
     let s = sound_so _ (sym c.in_ok-tested.ensures) in
-    (s, c.length_table-lengths.ensures)
+    s
 
 pub returns : goal.returns
 returns c =

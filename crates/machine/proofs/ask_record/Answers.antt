@@ -13,10 +13,7 @@ returns-in_err-tested c =
 pub step_record-requires : goal.step_record-requires
 step_record-requires c =
     let s = sound_so _ (sym c.in_ok-tested.ensures) in
-    record {
-      m_len = memory_length _ s;
-      sound_memory = (s, c.length_table-lengths.ensures);
-    }
+    record { m_len = memory_length _ s; sound_memory = s }
 
 pub returns : goal.returns
 returns c =

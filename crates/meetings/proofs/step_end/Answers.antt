@@ -20,24 +20,24 @@ returns-then-end c =
     refused_step 16 (over_the_last (view a.m.now) a.end (le-leb end_count a.end c.if-end.true))
 
 pub is_free-requires : goal.is_free-requires
-is_free-requires c = (memory_length _ c.requires.0, c.if-end.false)
+is_free-requires c = (memory_length _ c.requires, c.if-end.false)
 
 pub returns-then-is_free : goal.returns-then-is_free
 returns-then-is_free c =
     let a = c.args in
     let m = a.m.now in
-    let s = c.requires.0 in
+    let s = c.requires in
     let free = sym (c.is_free.ensures (view m) (memory_sized m s) s.laid_out) ∙ c.if-is_free.true in
     refused_step 16 (end_free (view m) a.end (lt-leb end_count a.end c.if-end.false) free)
 
 pub partner-f-requires : goal.partner-f-requires
-partner-f-requires c = (memory_length _ c.requires.0, c.if-end.false)
+partner-f-requires c = (memory_length _ c.requires, c.if-end.false)
 
 -- the end is in use
 in_use : (c : Else-is_free) → let a = c.args in is_free_end (end_at (view a.m.now) a.end) ≡ false
 in_use c =
     let m = c.args.m.now in
-    let s = c.requires.0 in
+    let s = c.requires in
     sym (c.is_free.ensures (view m) (memory_sized m s) s.laid_out) ∙ c.if-is_free.false
 
 -- f is its partner, and one of the ends
@@ -46,7 +46,7 @@ partner_here : (c : After-partner-f)
     (c.partner-f.result.0 ≡ partner_in (view a.m.now) a.end) × (c.partner-f.result.0 < end_count)
 partner_here c =
     let m = c.args.m.now in
-    let s = c.requires.0 in
+    let s = c.requires in
     let shown = c.partner-f.ensures (view m) (memory_sized m s) s.laid_out in
     partner_shown (view m) s.state_sound c.args.end (in_use c.before) shown
 
@@ -56,7 +56,7 @@ head_here : (c : After-head)
     head_of (end_at (view a.m.now) a.end) ≡ head_in c.head.result
 head_here c =
     let m = c.args.m.now in
-    let s = c.requires.0 in
+    let s = c.requires in
     sym (c.head.ensures (view m) (memory_sized m s) s.laid_out (sound_fits (view m) s.state_sound _))
 
 head_there : (c : After-head-2)
@@ -64,11 +64,11 @@ head_there : (c : After-head-2)
     head_of (end_at (view m) c.partner-f.result.0) ≡ head_in c.head-2.result
 head_there c =
     let m = c.args.m.now in
-    let s = c.requires.0 in
+    let s = c.requires in
     sym (c.head-2.ensures (view m) (memory_sized m s) s.laid_out (sound_fits (view m) s.state_sound _))
 
 pub head-requires : goal.head-requires
-head-requires c = (memory_length _ c.requires.0, c.if-end.false)
+head-requires c = (memory_length _ c.requires, c.if-end.false)
 
 pub returns-in_default : goal.returns-in_default
 returns-in_default c =
@@ -78,7 +78,7 @@ returns-in_default c =
     refused_step 17 (own_empty (view c.args.m.now) e within (in_use (goal.at.returns-in_default c).Else-is_free) empty)
 
 pub head-requires-2 : goal.head-requires-2
-head-requires-2 c = (memory_length _ c.requires.0, (partner_here (goal.at.head-requires-2 c).After-partner-f).1)
+head-requires-2 c = (memory_length _ c.requires, (partner_here (goal.at.head-requires-2 c).After-partner-f).1)
 
 pub returns-in_default-head : goal.returns-in_default-head
 returns-in_default-head c =
@@ -95,7 +95,7 @@ meet-requires c =
     let p = c.requires in
     let own = head_here (goal.at.meet-requires c).After-head ∙ ap head_in c.in-Some.is in
     record {
-      sound_memory = (p.0, p.1, c.if-end.false, (partner_here (goal.at.meet-requires c).After-partner-f).1);
+      sound_memory = (p, c.if-end.false, (partner_here (goal.at.meet-requires c).After-partner-f).1);
       heads = (own, head_there (goal.at.meet-requires c).After-head-2 ∙ ap head_in c.in-Some-head.is);
     }
 

@@ -15,11 +15,11 @@ use Rattle.asking.proofs.record.step_running.Goals.{After-place_of-place, In-Som
 
 -- the place that is read is that of the process
 placed : (c : After-place_of-place)
-    → c.place_of-place.result ≡ c.requires.sound_memory.2.process.place
+    → c.place_of-place.result ≡ c.requires.sound_memory.1.process.place
 placed c =
     let m = c.args.m.now in
     let s = c.requires.sound_memory.0 in
-    let a = c.requires.sound_memory.2 in
+    let a = c.requires.sound_memory.1 in
     c.place_of-place.ensures (view m) (memory_sized m s) (s.state_sound.S1.records_within _) s.laid_out
     ∙ ap (λ (x : RecordState). (registers_in x).place) a.runs
 
@@ -41,7 +41,7 @@ step_instruction-requires c =
       m_len = p.m_len;
       sound_memory = (
         p.sound_memory.0,
-        p.sound_memory.2,
+        p.sound_memory.1,
         listed_in (view c.args.m.now).code _ c.in-Some.decoded.instruction c.in-Some.decoded.next
             (good (goal.at.step_instruction-requires c).In-Some),
       );
@@ -50,7 +50,7 @@ step_instruction-requires c =
 pub returns-in_default : goal.returns-in_default
 returns-in_default c =
     let m = c.args.m.now in
-    let a = c.requires.sound_memory.2 in
+    let a = c.requires.sound_memory.1 in
     let bad = decoded_bad (view m).code _ _ _ c.code.ensures c.decode.ensures c.in_default.is in
     refused_step 4 (no_instruction (view m) _ a.process a.runs
     (ap (decode (view m).code) (sym (placed (goal.at.returns-in_default c).After-place_of-place)) ∙ bad))
@@ -58,7 +58,7 @@ returns-in_default c =
 pub returns : goal.returns
 returns c =
     let m = c.args.m.now in
-    let a = c.requires.sound_memory.2 in
+    let a = c.requires.sound_memory.1 in
     let here = ap (decode (view m).code) (sym (placed (goal.at.returns c).After-place_of-place))
     ∙ good (goal.at.returns c).In-Some in
     promised_as m (an_instruction (view m) _ a.process a.runs _ _ here) (c.step_instruction.ensures a.process a.runs)

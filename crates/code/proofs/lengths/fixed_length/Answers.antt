@@ -9,6 +9,4 @@ unfolding lengths
 row b h = get_d_table 256 (λ (k : ℕ). size_of (form_of k)) b 0 h
 
 pub returns : goal.returns
-returns c =
-    let a = c.args in
-    ap (λ (t : List ℕ). get_or t a.first 0) c.requires ∙ row a.first (search rules)
+returns c = ap (λ (t : List ℕ). get_or t c.args.first 0) c.length_table.ensures ∙ row c.args.first (search rules)

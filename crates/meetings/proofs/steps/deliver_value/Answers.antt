@@ -18,14 +18,14 @@ use Rattle.meetings.proofs.steps.deliver_value.Goals.{After-wanted_at}
 
 pub load-held-requires : goal.load-held-requires
 load-held-requires c =
-    let s = c.requires.sound_memory.0 in
+    let s = c.requires.sound_memory in
     (memory_length _ s, (waits_there _ s _ _ c.requires.datum_waits.wait_heads).in_list)
 
 -- what is known once the record is looked at
 found_here : (c : After-wanted_at) → let a = c.args in
     Found (view a.m.now) a.r.0 c.load-held.result c.wanted_at.result
 found_here c =
-    found c.args.m.now c.requires.sound_memory.0 _ _ c.requires.datum_waits.wait_heads _ c.wanted_at.result
+    found c.args.m.now c.requires.sound_memory _ _ c.requires.datum_waits.wait_heads _ c.wanted_at.result
     c.load-held.ensures c.wanted_at.ensures
 
 -- another thing is wanted, or nothing
@@ -33,7 +33,7 @@ pub returns-in_default : goal.returns-in_default
 returns-in_default c e f =
     let a = c.args in
     let m = a.m.now in
-    let there = found m c.requires.sound_memory.0 _ _ c.requires.datum_waits.wait_heads _ (Some _) c.load-held.ensures c.in_default.ensures in
+    let there = found m c.requires.sound_memory _ _ c.requires.datum_waits.wait_heads _ (Some _) c.load-held.ensures c.in_default.ensures in
     let g = there.waits.held in
     let met = datum_found (view m) _ there a.from.0 a.to.0 (value a.v)
     ∙ no_value_wanted (view m).code g.place g _ (opened c.in_default.in_default-own.keys2) a.from.0 a.to.0 a.r.0 a.v in
@@ -60,7 +60,7 @@ push-pushed-requires c =
 
 pub take_both-requires : goal.take_both-requires
 take_both-requires c =
-    let s = c.requires.sound_memory.0 in
+    let s = c.requires.sound_memory in
     let w = datum_within _ s c.requires.datum_waits in
     (memory_length _ s, w.0, w.1, w.2)
 
@@ -68,7 +68,7 @@ pub returns : goal.returns
 returns c e f =
     let a = c.args in
     let m = a.m.now in
-    let s = c.requires.sound_memory.0 in
+    let s = c.requires.sound_memory in
     let h = c.requires.datum_waits in
     let there = found_here (goal.at.returns c).After-wanted_at in
     let g = there.waits.held in

@@ -82,7 +82,7 @@ pub free_and_run-requires : goal.free_and_run-requires
 free_and_run-requires c =
     let p = c.requires.sound_memory in
     let r_in = (waits_there _ p.0 _ _ c.requires.no_data.1.wait_heads).in_list in
-    (memory_length _ p.0, p.2, p.3, r_in, c.in-Some.ensures.within)
+    (memory_length _ p.0, p.1, p.2, r_in, c.in-Some.ensures.within)
 
 pub returns : goal.returns
 returns c =

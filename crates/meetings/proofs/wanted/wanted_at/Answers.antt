@@ -8,4 +8,4 @@ overflow_cast-decoded c =
     let m = c.args.m.now in
     let told = c.in_ok-decoded.was in
     let good = decoded_good (view m).code _ _ _ c.code.ensures c.decode.ensures told in
-    record { fits = next_small m c.requires.0 _ _ good }
+    record { fits = next_small m c.requires _ _ good }

@@ -20,7 +20,7 @@ printed_at-requires c =
     let made = told c.step_from.ensures c.in_ok-p.was in (
       subst (λ (m : List ℕ). length m ≡ state_size) same p.m_len.0,
       position_below c.args.m.now c.args.position made p.m_len.1,
-      subst SoundMemory same p.sound_memory.0,
+      subst SoundMemory same p.sound_memory,
     )
 
 pub returns : goal.returns

@@ -16,7 +16,7 @@ use Rattle.printed.proofs.tracing.put_run.Goals.{After-verdict_of-verdict}
 pub verdict_of-verdict-requires : goal.verdict_of-verdict-requires
 verdict_of-verdict-requires c =
     let s = left_sound _ _ c.put_steps-lines.ensures.ended in
-    (memory_length _ s, s, c.length_table-lengths.ensures)
+    (memory_length _ s, s)
 
 -- the last line, behind the others, is within the limit
 last_room : (c : After-verdict_of-verdict)

@@ -15,7 +15,7 @@ step_forward-requires c =
     let s = memory_sound _ _ _ _ _ f in
     record {
       m_len = (memory_length _ s, f.in_range);
-      sound_memory = (s, c.requires.1);
+      sound_memory = s;
     }
 
 pub returns-in_default : goal.returns-in_default
@@ -30,7 +30,7 @@ number_fits c = search rules
 pub put_line-end-requires : goal.put_line-end-requires
 put_line-end-requires c =
     let l = c.loop-made in
-    let limit = c.requires.2 in
+    let limit = c.requires.1 in
     line_room _ _ _ _ _ _ _ l.invariant.3 c.step_forward.ensures _ c.in-Some.is c.loop-made-test.true
     (number_fits (goal.at.put_line-end-requires c).In-Some) limit l.invariant.2
 

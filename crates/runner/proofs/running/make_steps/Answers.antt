@@ -5,16 +5,15 @@ use Rattle.runner.proofs.Making.{none_yet, memory_sound, stopped, position_in_ra
 use Rattle.runner.proofs.running.make_steps.Goals as goal
 
 pub loop-made-init : goal.loop-made-init
-loop-made-init c = let p = c.requires in (omega arith, refl, none_yet _ p.sound_memory.0 _ p.m_len.1)
+loop-made-init c = let p = c.requires in (omega arith, refl, none_yet _ p.sound_memory _ p.m_len.1)
 
 pub step_from-requires : goal.step_from-requires
 step_from-requires c =
     let l = c.loop-made in
-    let p = c.requires in
     let s = memory_sound _ _ _ _ _ l.invariant.2 in
     record {
       m_len = (memory_length _ s, l.invariant.2.in_range);
-      sound_memory = (s, p.sound_memory.1);
+      sound_memory = s;
     }
 
 pub returns-in_default : goal.returns-in_default

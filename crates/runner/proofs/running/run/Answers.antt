@@ -22,13 +22,13 @@ make_steps-count-requires c =
     let s = sound_so _ (sym c.in_ok-tested.ensures) in
     record {
       m_len = (memory_length _ s, c.if-start.false);
-      sound_memory = (s, c.length_table-lengths.ensures);
+      sound_memory = s;
     }
 
 pub verdict_of-requires : goal.verdict_of-requires
 verdict_of-requires c =
     let s = left_sound c.make_steps-count.ensures in
-    (memory_length _ s, s, c.length_table-lengths.ensures)
+    (memory_length _ s, s)
 
 pub returns : goal.returns
 returns c =

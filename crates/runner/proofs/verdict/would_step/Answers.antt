@@ -19,7 +19,7 @@ step_from-requires c =
     let same = sym (copied (goal.at.step_from-requires c).After-copy) in
     record {
       m_len = (subst (λ (m : List ℕ). length m ≡ state_size) same p.0, omega arith);
-      sound_memory = (subst SoundMemory same p.1, p.2);
+      sound_memory = subst SoundMemory same p.1;
     }
 
 pub returns : goal.returns

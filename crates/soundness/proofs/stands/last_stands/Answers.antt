@@ -18,7 +18,6 @@ stands_at-requires c =
     let is = c.in-Some-Wait.is ∙ ap (λ (x : Last). Some x) c.in-Some-Wait.field-0-is in
     record {
       m_len = (c.requires.m_len.0, c.requires.m_len.1, wait_within is c.last_of.ensures.within);
-      length_table = c.requires.length_table;
     }
 
 pub returns-in_default : goal.returns-in_default
