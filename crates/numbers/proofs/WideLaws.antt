@@ -6,8 +6,8 @@ use native.Mathlib.Omega.{arith}
 use mathlib.Core.Bool.{cond}
 use lib.Dec.{ltb}
 use lib.IntN.{ℤ, pos, negsuc, neg_ℤ, sub_ℕ, ◌+ℤ◌, ◌*ℤ◌}
-use lib.Signed.{mag, lt_z}
-use borrow.Author.Tests.{lt-leb, le-leb, ltb-true, ltb-false}
+use lib.Signed.{mag}
+use borrow.Author.Tests.{lt-leb, leb-false}
 use mir.Syntax.{w32, w64}
 use mir.Val.{to_z, of_z, SFits}
 use mir.Facts.{sfits_widen, to_z-of_z}
@@ -49,15 +49,20 @@ product_fits (negsuc a) (pos b) f h =
 product_fits (negsuc a) (negsuc b) f h =
     record { sfits = omega (arith, product_le (suc a) (suc b) (omega (arith, f.sfits)) (omega (arith, h.sfits))) }
 
--- below the least value of 32 bits
-pub under : (v : ℤ) → lt_z v (negsuc 2147483647) ≡ true → true ≡ outside v
-under (pos n) t = absurd (let z : ◌≡◌ {A = ℕ} 0 1 = cc in omega arith)
-under (negsuc n) t = sym (le-leb value_bound n (omega (arith, ltb-true 2147483647 n t)))
+-- a value of 32 bits is not outside them, and any other is
+pub fits_inside : (v : ℤ) → SFits w32 v → outside v ≡ false
+fits_inside (pos n) f = lt-leb value_bound n (omega (arith, f.sfits))
+fits_inside (negsuc n) f = lt-leb value_bound n (omega (arith, f.sfits))
 
--- not below it: outside exactly if above the greatest
-pub over : (v : ℤ) → lt_z v (negsuc 2147483647) ≡ false → lt_z (pos 2147483647) v ≡ outside v
-over (pos n) t = refl
-over (negsuc n) t = sym (lt-leb value_bound n (omega (arith, ltb-false 2147483647 n t)))
+pub other_outside : (v : ℤ) → (SFits w32 v → ⊥) → outside v ≡ true
+other_outside v h = go (outside v) refl
+  where
+    small : (z : ℤ) → outside z ≡ false → SFits w32 z
+    small (pos n) e = record { sfits = omega (arith, leb-false value_bound n e) }
+    small (negsuc n) e = record { sfits = omega (arith, leb-false value_bound n e) }
+    go : (b : Bool) → outside v ≡ b → outside v ≡ true
+    go true e = e
+    go false e = absurd (h (small v e))
 
 -- a value of 32 bits moved, and moved again in 64 bits
 pub widened : (x : ℤ) → SFits w32 x → to_z w64 (of_z w64 (to_z w32 (of_z w32 x))) ≡ x

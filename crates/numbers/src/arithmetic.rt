@@ -14,7 +14,7 @@ ghost use Rattle.registers.specs.Registers.{registers_of, combined, moved_to};
 ghost use Rattle.stepping.specs.Stepped.{Stepped};
 ghost use Rattle.numbers.specs.Checked.{made_of, makes, checked};
 
-use crate::wide::{at_most, is_outside, narrow, product, sum};
+use crate::wide::{at_most, product, sum};
 use registers::Registers;
 use rules::{Record, Refusal};
 
@@ -62,10 +62,10 @@ fn combine_checked(
         → held ≡ registers_of g → Promise (reply_to (checked st (record_number r) next g v))
         (layout_or m.old (checked st (record_number r) next g v)) (answer_of result) m.new }
 {
-    if is_outside(v) {
+    let Ok(value) = i32::try_from(v) else {
         return Err(Refusal::Outside);
-    }
-    combine(m, r, held, narrow(v), next);
+    };
+    combine(m, r, held, value, next);
     Ok(())
 }
 
