@@ -53,6 +53,13 @@ fn plug_at(code: &[u8], place: usize) -> Instruction
     }
 }
 
+// What is answered for an instruction and the place after it.
+fn found(instruction: Instruction, next: usize) -> Option<Decoded>
+    ensures { result ≡ Some (record { instruction = instruction; next = next }) }
+{
+    Some(Decoded { instruction, next })
+}
+
 // An hcase whose k places would be listed from `listed` on.
 fn hcase_at(code: &[u8], place: usize, listed: usize) -> Option<Decoded>
     requires { (byte_at code.now place 0 ≡ 0x19) × (listed ≡ place + 3) × (listed ≤ length code.now) }
@@ -68,10 +75,10 @@ fn hcase_at(code: &[u8], place: usize, listed: usize) -> Option<Decoded>
     if code.len() - listed < 2 * (k as usize) {
         return None;
     }
-    Some(Decoded {
-        instruction: Instruction::Hcase(slot_at(code, place, 1), k),
-        next: listed + 2 * (k as usize),
-    })
+    found(
+        Instruction::Hcase(slot_at(code, place, 1), k),
+        listed + 2 * (k as usize),
+    )
 }
 
 // A run whose j slots would be listed from `listed` on.
@@ -83,10 +90,10 @@ fn run_at(code: &[u8], place: usize, listed: usize) -> Option<Decoded>
     if code.len() - listed < j as usize {
         return None;
     }
-    Some(Decoded {
-        instruction: Instruction::Run(place_at(code, place, 1), byte_at(code, place, 3), j),
-        next: listed + j as usize,
-    })
+    found(
+        Instruction::Run(place_at(code, place, 1), byte_at(code, place, 3), j),
+        listed + j as usize,
+    )
 }
 
 // The instruction that begins with this first byte, and whose fixed part ends before `next`. Each arm builds the whole answer: one that is
@@ -97,66 +104,27 @@ pub fn decode_fixed(code: &[u8], place: usize, first: u8, next: usize) -> Option
     ensures { meaning code.now place result ≡ decoded_by_rules code.now place }
 {
     match first {
-        0x01 => Some(Decoded {
-            instruction: Instruction::Cst(signed_at(code, place, 1)),
+        0x01 => found(Instruction::Cst(signed_at(code, place, 1)), next),
+        0x02 => found(Instruction::Access(byte_at(code, place, 1)), next),
+        0x03 => found(Instruction::Store, next),
+        0x04 => found(Instruction::Add, next),
+        0x05 => found(Instruction::Mul, next),
+        0x06 => found(Instruction::Leq, next),
+        0x10 => found(Instruction::Put(slot_at(code, place, 1)), next),
+        0x11 => found(Instruction::Get(slot_at(code, place, 1)), next),
+        0x12 => found(split_at(code, place), next),
+        0x13 => found(fork_at(code, place), next),
+        0x14 => found(plug_at(code, place), next),
+        0x15 => found(Instruction::Close(slot_at(code, place, 1)), next),
+        0x16 => found(Instruction::Halt(slot_at(code, place, 1)), next),
+        0x17 => found(
+            Instruction::Same(slot_at(code, place, 1), slot_at(code, place, 2)),
             next,
-        }),
-        0x02 => Some(Decoded {
-            instruction: Instruction::Access(byte_at(code, place, 1)),
+        ),
+        0x18 => found(
+            Instruction::Hput(slot_at(code, place, 1), byte_at(code, place, 2)),
             next,
-        }),
-        0x03 => Some(Decoded {
-            instruction: Instruction::Store,
-            next,
-        }),
-        0x04 => Some(Decoded {
-            instruction: Instruction::Add,
-            next,
-        }),
-        0x05 => Some(Decoded {
-            instruction: Instruction::Mul,
-            next,
-        }),
-        0x06 => Some(Decoded {
-            instruction: Instruction::Leq,
-            next,
-        }),
-        0x10 => Some(Decoded {
-            instruction: Instruction::Put(slot_at(code, place, 1)),
-            next,
-        }),
-        0x11 => Some(Decoded {
-            instruction: Instruction::Get(slot_at(code, place, 1)),
-            next,
-        }),
-        0x12 => Some(Decoded {
-            instruction: split_at(code, place),
-            next,
-        }),
-        0x13 => Some(Decoded {
-            instruction: fork_at(code, place),
-            next,
-        }),
-        0x14 => Some(Decoded {
-            instruction: plug_at(code, place),
-            next,
-        }),
-        0x15 => Some(Decoded {
-            instruction: Instruction::Close(slot_at(code, place, 1)),
-            next,
-        }),
-        0x16 => Some(Decoded {
-            instruction: Instruction::Halt(slot_at(code, place, 1)),
-            next,
-        }),
-        0x17 => Some(Decoded {
-            instruction: Instruction::Same(slot_at(code, place, 1), slot_at(code, place, 2)),
-            next,
-        }),
-        0x18 => Some(Decoded {
-            instruction: Instruction::Hput(slot_at(code, place, 1), byte_at(code, place, 2)),
-            next,
-        }),
+        ),
         0x19 => hcase_at(code, place, next),
         0x1A => run_at(code, place, next),
         _ => None,

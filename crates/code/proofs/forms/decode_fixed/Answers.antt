@@ -111,68 +111,65 @@ pub returns-in-1 : goal.returns-in-1
 unfolding form_of form_in instruction_at
 returns-in-1 c =
     let value = to_z-of_z {w = w32} {z = c.signed_at.result} (search rules) ∙ c.signed_at.ensures in
-    arm (goal.at.returns-in-1 c).Start 0x01 refl (omega arith) c.in-1.is (λ i. cst (value i))
+    rw c.found.ensures (arm (goal.at.returns-in-1 c).Start 0x01 refl (omega arith) c.in-1.is (λ i. cst (value i)))
 
 pub returns-in-2 : goal.returns-in-2
 unfolding form_of form_in instruction_at
-returns-in-2 c = arm (goal.at.returns-in-2 c).Start 0x02 refl (omega arith) c.in-2.is (λ i. access (c.byte_at.ensures i))
+returns-in-2 c = rw c.found-in-2.ensures (arm (goal.at.returns-in-2 c).Start 0x02 refl (omega arith) c.in-2.is (λ i. access (c.byte_at.ensures i)))
 
 pub returns-in-3 : goal.returns-in-3
 unfolding form_of form_in instruction_at
-returns-in-3 c = arm (goal.at.returns-in-3 c).Start 0x03 refl (omega arith) c.in-3.is (refl)
+returns-in-3 c = rw c.found-in-3.ensures (arm (goal.at.returns-in-3 c).Start 0x03 refl (omega arith) c.in-3.is (refl))
 
 pub returns-in-4 : goal.returns-in-4
 unfolding form_of form_in instruction_at
-returns-in-4 c = arm (goal.at.returns-in-4 c).Start 0x04 refl (omega arith) c.in-4.is (refl)
+returns-in-4 c = rw c.found-in-4.ensures (arm (goal.at.returns-in-4 c).Start 0x04 refl (omega arith) c.in-4.is (refl))
 
 pub returns-in-5 : goal.returns-in-5
 unfolding form_of form_in instruction_at
-returns-in-5 c = arm (goal.at.returns-in-5 c).Start 0x05 refl (omega arith) c.in-5.is (refl)
+returns-in-5 c = rw c.found-in-5.ensures (arm (goal.at.returns-in-5 c).Start 0x05 refl (omega arith) c.in-5.is (refl))
 
 pub returns-in-6 : goal.returns-in-6
 unfolding form_of form_in instruction_at
-returns-in-6 c = arm (goal.at.returns-in-6 c).Start 0x06 refl (omega arith) c.in-6.is (refl)
+returns-in-6 c = rw c.found-in-6.ensures (arm (goal.at.returns-in-6 c).Start 0x06 refl (omega arith) c.in-6.is (refl))
 
 pub returns-in-16 : goal.returns-in-16
 unfolding form_of form_in instruction_at
-returns-in-16 c = arm (goal.at.returns-in-16 c).Start 0x10 refl (omega arith) c.in-16.is (λ i. put (c.slot_at.ensures i))
+returns-in-16 c = rw c.found-in-16.ensures (arm (goal.at.returns-in-16 c).Start 0x10 refl (omega arith) c.in-16.is (λ i. put (c.slot_at.ensures i)))
 
 pub returns-in-17 : goal.returns-in-17
 unfolding form_of form_in instruction_at
-returns-in-17 c = arm (goal.at.returns-in-17 c).Start 0x11 refl (omega arith) c.in-17.is (λ i. get (c.slot_at-in-17.ensures i))
+returns-in-17 c = rw c.found-in-17.ensures (arm (goal.at.returns-in-17 c).Start 0x11 refl (omega arith) c.in-17.is (λ i. get (c.slot_at-in-17.ensures i)))
 
 pub returns-in-18 : goal.returns-in-18
 unfolding form_of form_in instruction_at
-returns-in-18 c = arm (goal.at.returns-in-18 c).Start 0x12 refl (omega arith) c.in-18.is c.split_at.ensures
+returns-in-18 c = rw c.found-in-18.ensures (arm (goal.at.returns-in-18 c).Start 0x12 refl (omega arith) c.in-18.is c.split_at.ensures)
 
 pub returns-in-19 : goal.returns-in-19
 unfolding form_of form_in instruction_at
-returns-in-19 c = arm (goal.at.returns-in-19 c).Start 0x13 refl (omega arith) c.in-19.is c.fork_at.ensures
+returns-in-19 c = rw c.found-in-19.ensures (arm (goal.at.returns-in-19 c).Start 0x13 refl (omega arith) c.in-19.is c.fork_at.ensures)
 
 pub returns-in-20 : goal.returns-in-20
 unfolding form_of form_in instruction_at
-returns-in-20 c = arm (goal.at.returns-in-20 c).Start 0x14 refl (omega arith) c.in-20.is c.plug_at.ensures
+returns-in-20 c = rw c.found-in-20.ensures (arm (goal.at.returns-in-20 c).Start 0x14 refl (omega arith) c.in-20.is c.plug_at.ensures)
 
 pub returns-in-21 : goal.returns-in-21
 unfolding form_of form_in instruction_at
-returns-in-21 c =
-    arm (goal.at.returns-in-21 c).Start 0x15 refl (omega arith) c.in-21.is (λ i. close (c.slot_at-in-21.ensures i))
+returns-in-21 c = rw c.found-in-21.ensures (arm (goal.at.returns-in-21 c).Start 0x15 refl (omega arith) c.in-21.is (λ i. close (c.slot_at-in-21.ensures i)))
 
 pub returns-in-22 : goal.returns-in-22
 unfolding form_of form_in instruction_at
-returns-in-22 c = arm (goal.at.returns-in-22 c).Start 0x16 refl (omega arith) c.in-22.is (λ i. halt (c.slot_at-in-22.ensures i))
+returns-in-22 c = rw c.found-in-22.ensures (arm (goal.at.returns-in-22 c).Start 0x16 refl (omega arith) c.in-22.is (λ i. halt (c.slot_at-in-22.ensures i)))
 
 pub returns-in-23 : goal.returns-in-23
 unfolding form_of form_in instruction_at
-returns-in-23 c =
-    arm (goal.at.returns-in-23 c).Start 0x17 refl (omega arith) c.in-23.is
-    (λ i. same (c.slot_at-in-23.ensures i) (c.slot_at-in-23-2.ensures i))
+returns-in-23 c = rw c.found-in-23.ensures (arm (goal.at.returns-in-23 c).Start 0x17 refl (omega arith) c.in-23.is
+    (λ i. same (c.slot_at-in-23.ensures i) (c.slot_at-in-23-2.ensures i)))
 
 pub returns-in-24 : goal.returns-in-24
 unfolding form_of form_in instruction_at
-returns-in-24 c =
-    arm (goal.at.returns-in-24 c).Start 0x18 refl (omega arith) c.in-24.is
-    (λ i. hput (c.slot_at-in-24.ensures i) (c.byte_at-in-24.ensures i))
+returns-in-24 c = rw c.found-in-24.ensures (arm (goal.at.returns-in-24 c).Start 0x18 refl (omega arith) c.in-24.is
+    (λ i. hput (c.slot_at-in-24.ensures i) (c.byte_at-in-24.ensures i)))
 
 pub returns-in_default : goal.returns-in_default
 returns-in_default c = begins_none _ _ (rw c.requires.first_byte at c.in_default.in_default-own.rest)

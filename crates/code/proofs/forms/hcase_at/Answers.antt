@@ -37,5 +37,5 @@ returns c =
     let after : c.args.listed + 2 * c.byte_at-k.result ≡ place + 3 + 2 * byte_at code place 2 = omega arith in
     let few = ne_eqb (byte_at code place 2) 0 (λ z. c.if-k-eq0.false (k ∙ z)) in
     let many = le-ltb cases_limit (byte_at code place 2) (omega arith) in
-    (λ i. some (record { instruction = hcase (c.slot_at.ensures i) (places_at code place 3 (k i)); next = after i }))
-    ∙ good code place hcase_row (row (goal.at.returns c).Start) (omega arith) few many (omega arith)
+    rw c.found.ensures ((λ i. some (record { instruction = hcase (c.slot_at.ensures i) (places_at code place 3 (k i)); next = after i }))
+    ∙ good code place hcase_row (row (goal.at.returns c).Start) (omega arith) few many (omega arith))

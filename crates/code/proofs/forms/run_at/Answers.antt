@@ -26,5 +26,5 @@ returns c =
     let n = c.byte_at.ensures in
     let j = c.byte_at-j.ensures in
     let after : c.args.listed + c.byte_at-j.result ≡ place + 5 + byte_at code place 4 = omega arith in
-    (λ i. some (record { instruction = run (p i) (n i) (slots_at code place 5 (j i)); next = after i }))
-    ∙ good code place run_row (row (goal.at.returns c).Start) (omega arith) refl refl (omega arith)
+    rw c.found.ensures ((λ i. some (record { instruction = run (p i) (n i) (slots_at code place 5 (j i)); next = after i }))
+    ∙ good code place run_row (row (goal.at.returns c).Start) (omega arith) refl refl (omega arith))
