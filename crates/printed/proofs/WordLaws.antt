@@ -3,13 +3,12 @@
 use mathlib.Core.Path.{◌≡◌, refl, sym, ap, ◌∙◌}
 use mathlib.Core.Bool.{Bool, true, false}
 use mathlib.Core.List.{List, [], ◌++◌}
-use Prim.Native.Nat.{ℕ, ◌+◌, ◌*◌, ◌-◌, ◌%◌, ◌≤◌, ◌<◌}
+use Prim.Native.Nat.{ℕ, ◌+◌, ◌-◌, ◌%◌, ◌≤◌, ◌<◌}
 use native.Mathlib.Omega.{arith}
-use lib.ListN.{length, get_or, take, drop, length-append}
-use lib.Dec.{ltb, leb}
+use lib.ListN.{length, get_or, length-append}
+use lib.Dec.{ltb}
 use lib.IntN.{ℤ}
-use borrow.Author.Tests.{leb-true}
-use Rattle.rules.specs.Bytes.{table, pad, flat}
+use Rattle.rules.specs.Bytes.{table}
 use Rattle.rules.specs.Text.{text, signed_decimal}
 use Rattle.rules.specs.Printed.{name_text, kind_text, verdict_text}
 use Rattle.rules.proofs.TestLaws.{true_is_not_false}
@@ -20,21 +19,11 @@ use Rattle.runner.specs.declared.verdict.Verdict.TheVariants.{Spent, Finished, S
 use Rattle.printed.specs.declared.kinds.Kind.{Kind}
 use Rattle.printed.specs.declared.kinds.Kind.TheVariants.{Instruction, Value, Handle, Split, Close}
 use Rattle.printed.specs.Meaning.{row_of, name_in, kind_in, verdict_in}
-use Rattle.printed.specs.Words.{line_words, word_count, name_count, word_text, word_row, word_table, word_of, is_numbered, word_of_verdict}
+use Rattle.printed.specs.Words.{line_words, word_count, name_count, word_text, word_of, is_numbered, word_of_verdict}
 
 -- what holds of two whole tables holds of each of their rows
 each : {A : Type 0} (n : ℕ) (f g : ℕ → A) → table n f ≡ table n g → (d : A) (k : ℕ) → k < n → f k ≡ g k
 each {A} n f g e d k h = sym (get_d_table n f k d h) ∙ ap (λ (l : List A). get_or l k d) e ∙ get_d_table n g k d h
-
--- ---- the rows
-
-pub row_letters : (row : ℕ) → row < word_count → take (get_or word_table (9 * row) 0) (drop (9 * row + 1) word_table) ≡ word_text row
-unfolding word_table word_text word_row line_words name_text text table pad flat
-row_letters row h = each word_count (λ (k : ℕ). take (get_or word_table (9 * k) 0) (drop (9 * k + 1) word_table)) word_text refl [] row h
-
-pub row_short : (row : ℕ) → row < word_count → get_or word_table (9 * row) 0 ≤ 8
-unfolding word_table word_row line_words name_text text table pad flat
-row_short row h = leb-true _ _ (each word_count (λ (k : ℕ). leb (get_or word_table (9 * k) 0) 8) (λ (k : ℕ). true) refl false row h)
 
 -- ---- kinds
 

@@ -1,7 +1,7 @@
 -- The words of a line in one table, as the code has them: the names in the order of document 01's table, what is delivered at an end, and
 -- the verdicts. Assumes nothing.
-use Rattle.std.specs.Prelude.{Bool, true, false, List, [], ◌∷◌, ◌++◌, map, ℕ, length, get_or}
-use Rattle.rules.specs.Bytes.{pad, flat}
+use Rattle.std.specs.Prelude.{Bool, true, false, List, [], ◌∷◌, ◌++◌, map, ℕ, get_or}
+use Rattle.std.proofs.Common.{Bor}
 use Rattle.rules.specs.Instruction.{Form, forms}
 use Rattle.rules.specs.Text.{text}
 use Rattle.rules.specs.Printed.{name_text}
@@ -16,6 +16,10 @@ line_words =
     map (λ (f : Form). name_text f.name) forms
     ++ (text "value " ∷ text "handle " ∷ text "split" ∷ text "close" ∷ text "spent" ∷ text "finished" ∷ text "stuck" ∷ [])
 
+-- the words that a table of references shows
+abbrev pub letters : List (Bor (List ℕ)) → List (List ℕ)
+letters = map (λ (word : Bor (List ℕ)). word.now)
+
 -- how many there are, and how many names
 abbrev pub word_count : ℕ
 word_count = 24
@@ -26,14 +30,6 @@ name_count = 17
 -- the word in a row
 unfoldable pub word_text : (row : ℕ) → List ℕ
 word_text row = get_or line_words row []
-
--- a row in bytes: how many letters, and the letters with spaces behind
-unfoldable pub word_row : List ℕ → List ℕ
-word_row word = length word ∷ pad 8 32 word
-
--- the table in bytes
-unfoldable pub word_table : List ℕ
-word_table = flat word_row line_words
 
 -- the row of the word that a kind begins with
 abbrev pub word_of : Kind → ℕ

@@ -1,60 +1,62 @@
 // The words of a line as one table: the names of the instructions in the order of document 01's table, what is delivered at an end, and
-// the verdicts. A row is how many letters its word has, and the letters.
+// the verdicts.
 ghost use Rattle.std.specs.Prelude.{◌≡◌, ◌+◌, ◌≤◌, ◌<◌, length};
 ghost use Rattle.text.specs.Written.{Written};
 ghost use Rattle.printed.specs.Meaning.{row_of};
-ghost use Rattle.printed.specs.Words.{word_count, word_table, word_text, word_of, is_numbered, word_of_verdict};
+ghost use Rattle.printed.specs.Words.{letters, line_words, word_count, word_text, word_of, is_numbered, word_of_verdict};
 
 use crate::kinds::Kind;
 use runner::Verdict;
 use text::put_bytes;
 
-// Bytes of a row.
-const ROW_SIZE: usize = 9;
-
-const WORDS: [u8; 216] = *b"\
-    \x03cst     \
-    \x06access  \
-    \x05store   \
-    \x03add     \
-    \x03mul     \
-    \x03leq     \
-    \x03put     \
-    \x03get     \
-    \x05split   \
-    \x04fork    \
-    \x04plug    \
-    \x05close   \
-    \x04halt    \
-    \x04same    \
-    \x04hput    \
-    \x05hcase   \
-    \x03run     \
-    \x06value   \
-    \x07handle  \
-    \x05split   \
-    \x05close   \
-    \x05spent   \
-    \x08finished\
-    \x05stuck   ";
+const WORDS: [&[u8]; 24] = [
+    b"cst",
+    b"access",
+    b"store",
+    b"add",
+    b"mul",
+    b"leq",
+    b"put",
+    b"get",
+    b"split",
+    b"fork",
+    b"plug",
+    b"close",
+    b"halt",
+    b"same",
+    b"hput",
+    b"hcase",
+    b"run",
+    b"value ",
+    b"handle ",
+    b"split",
+    b"close",
+    b"spent",
+    b"finished",
+    b"stuck",
+];
 
 // The table as a value.
-fn word_table() -> [u8; 216]
-    ensures { result ≡ word_table }
+fn words() -> [&'static [u8]; 24]
+    ensures { letters result ≡ line_words }
 {
     WORDS
 }
 
 // The word in a row.
+fn word(row: u8) -> &'static [u8]
+    requires { row < word_count }
+    ensures { result.now ≡ word_text row }
+{
+    words()[row as usize]
+}
+
+// The word in a row goes into a buffer.
 pub fn put_word(out: &mut [u8], at: usize, row: u8) -> usize
     requires { (row < word_count) × (at + length (word_text row) ≤ length out.old) }
     ensures { Written out.old at (word_text row) out.new result }
 {
-    let table = word_table();
-    let start = ROW_SIZE * row as usize;
-    let from = start + 1;
-    let behind = from + table[start] as usize;
-    put_bytes(out, at, &table[from..behind])
+    put_bytes(out, at, word(row))
 }
 
 // The row of an instruction's name, by its first byte. A byte that begins no instruction is never shown, and has one of them too.
@@ -84,13 +86,7 @@ pub fn word_of(kind: Kind) -> u8
 pub fn is_numbered(kind: Kind) -> bool
     ensures { result ≡ is_numbered kind }
 {
-    match kind {
-        Kind::Instruction(_) => false,
-        Kind::Value => true,
-        Kind::Handle => true,
-        Kind::Split => false,
-        Kind::Close => false,
-    }
+    matches!(kind, Kind::Value | Kind::Handle)
 }
 
 // The row of a verdict's word.
