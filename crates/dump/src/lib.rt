@@ -54,7 +54,8 @@ fn put_records(out: &mut [u8], at: usize, m: &[u8]) -> usize
     next
 }
 
-// The lines of the ends.
+// The lines of the ends. One function for these and the records would take what prints a line as a closure, and its contract would have to
+// ask at every place and number what `put_end` asks: no shorter than two loops of three lines.
 fn put_ends(out: &mut [u8], at: usize, m: &[u8]) -> usize
     requires sound { (length m.now ≡ state_size) × SoundMemory m.now }
     requires room { at + length (ends_text (view m.now).ends) ≤ length out.old }

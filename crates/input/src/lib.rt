@@ -2,7 +2,7 @@
 
 #![tactic(auto)]
 
-ghost use Rattle.std.specs.Prelude.{◌≡◌, ◌≤◌, ◌<◌, length, take, IfOk};
+ghost use Rattle.std.specs.Prelude.{◌≡◌, ℕ, ◌≤◌, ◌<◌, length, get_or, take, IfOk};
 ghost use Rattle.std.specs.Io.KnownBytes.{Consumes, IsAtEnd};
 
 use std::io::{self, Read};
@@ -12,7 +12,8 @@ pub const IMAGE_ROOM: usize = 8193;
 
 // A buffer of a program: its length is what lending it needs. A function of its own, so that no proof looks into an array of this length.
 pub fn zeros<const N: usize>() -> [u8; N]
-    ensures { N ≡ length result }
+    ensures size { N ≡ length result }
+    ensures values { (i : ℕ) → get_or result i 0 ≡ 0 }
 {
     [0; N]
 }

@@ -1,5 +1,6 @@
 // The cells of a stack or an environment, values first and zeros behind them: shifted by one, read from a slice of bytes and written into
-// it. The loops are plain, so that they become block moves.
+// it. The cells of a queue and the bytes of slots are read and written alike, each in a line or two of its own: a function for all three
+// would be told the width, the place and the number of each, and be longer than they are.
 ghost use Rattle.std.specs.Prelude.{◌≡◌, List, ◌∷◌, ◌+◌, ◌*◌, ◌≤◌, pos, length, drop};
 ghost use Rattle.rules.specs.Limits.{stack_depth};
 ghost use Rattle.rules.specs.Bytes.{pad, flat};

@@ -52,7 +52,8 @@ module _ {A : Type 0} (test : A → Bool) (d : A) (f : ℕ → Bool) where
       let here : f n ≡ test x = ap f (sym (add-zero n)) ∙ h 0 (omega arith) in
       (λ i. here i && places_from l (n + 1) (λ k p. ap f (omega arith) ∙ h (suc k) (omega arith)) i) ∙ joined (test x) (all test l)
 
-  pub places_all : (l : List A) {n : ℕ} → length l ≡ n → ((k : ℕ) → f k ≡ test (get_or l k d)) → list_all f (range_with_len 0 n) ≡ all test l
+  pub places_all : (l : List A) {n : ℕ} → length l ≡ n → ((k : ℕ) → f k ≡ test (get_or l k d))
+      → list_all f (range_with_len 0 n) ≡ all test l
   places_all l e h =
       ap (λ (n : ℕ). list_all f (range_with_len 0 n)) (sym e) ∙ places_from l 0 (λ k p. ap f (omega arith) ∙ h k)
 

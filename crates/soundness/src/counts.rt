@@ -1,4 +1,6 @@
 // Counts, one for each end or each record. They are of two bytes: bytes that are no sound state may name one end more than 255 times.
+// Slots, split items and waits are each counted by a loop of their own: the three begin with other counts, go over records or ends, and
+// stay below other limits, so that one function for them would be given all of these and say less.
 ghost use Rattle.std.specs.Prelude.{◌≡◌, ◌+◌, ◌<◌, length, get_or, set};
 ghost use Rattle.soundness.specs.Counts.{counter_limit};
 

@@ -41,6 +41,7 @@ fn spell(digits: &mut [u8], n: u64) -> usize
     let mut from = MOST_DIGITS - 1;
     digits[from] = last_digit(n);
     let mut rest = n / 10;
+    // a `while`: how many digits there are shows only as they come
     while 0 < rest {
         from -= 1;
         digits[from] = last_digit(rest);

@@ -60,7 +60,10 @@ filled_all {d = d} {n = n} {f = f} {a = a} {k = k} h l =
 -- an array that `from_fn` filled by a closure that changes nothing: each place holds what the call there gives
 pub filled_from_fn : {F A : Type 0} {g : Mut F (ℕ × Unit {0}) A} {p : F} {a : List A} {n : ℕ} (d : A) (f : ℕ → A)
     → IsFromFnResult g p a n → ((i : ℕ) (x : A) (q : F) → i < n → Called g p (i, tt) x q → (q ≡ p) × (x ≡ f i)) → Filled d n f a n
-filled_from_fn {F} {A} {g} {p} {a} {n} d f r one = record { size = r.long; done = λ j h. go n 0 (omega arith) r.each j (omega arith) (omega arith) }
+filled_from_fn {F} {A} {g} {p} {a} {n} d f r one = record {
+  size = r.long;
+  done = λ j h. go n 0 (omega arith) r.each j (omega arith) (omega arith);
+}
   where
     go : (k i : ℕ) → i + k ≡ n → IsFromFnResultFrom g p a i k → (j : ℕ) → i ≤ j → j < n → get_or a j d ≡ f j
     go zero i e u j l h = absurd (omega arith)

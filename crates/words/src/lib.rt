@@ -26,6 +26,7 @@ fn part<const N: usize>(m: &[u8], at: usize) -> [u8; N]
     bytes
 }
 
+// A function for each type, each a line over that type's conversion of std: a trait of them would hold the same lines, in an impl for each.
 pub fn get16(m: &[u8], at: usize) -> u16
     requires { at + 2 ≤ length m.now }
     ensures { result ≡ number_at 2 m.now at }

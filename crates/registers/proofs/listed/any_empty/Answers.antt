@@ -11,4 +11,6 @@ use Rattle.registers.proofs.listed.any_empty.Goals as goal
 pub returns : goal.returns
 returns c l n e =
     let cs = c.args.listed.now in
-    any_from_yields_List (is_empty l) _ _ _ c.any.ensures.ran (YieldsList-from_slice cs (cc)) (λ x b q k. search (rules, tests, zero_empty, n, e)) ∙ empty_any l cs
+    any_from_yields_List (is_empty l) _ _ _ c.any.ensures.ran (YieldsList-from_slice cs (cc))
+    (λ x b q k. search (rules, tests, zero_empty, n, e))
+    ∙ empty_any l cs

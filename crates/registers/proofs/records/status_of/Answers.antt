@@ -23,5 +23,5 @@ returns-in-1 c st z e = status_running (status_of (record_at st _)) (byte_is (go
 
 pub returns-in_default : goal.returns-in_default
 returns-in_default c st z e =
-    status_waiting (status_of (record_at st _)) (byte_is (goal.at.returns-in_default c).After-get8 st z e) c.in_default.in_default-own.rest.0.1
-    c.in_default.in_default-own.rest.1
+    status_waiting (status_of (record_at st _)) (byte_is (goal.at.returns-in_default c).After-get8 st z e)
+    c.in_default.in_default-own.rest.0.1 c.in_default.in_default-own.rest.1

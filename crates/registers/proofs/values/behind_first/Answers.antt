@@ -9,6 +9,7 @@ use Rattle.registers.proofs.values.behind_first.Goals as goal
 
 pub returns : goal.returns
 returns c l h e =
-    let same : copy_within c.args.values 1 (length c.args.values) 0 ≡ copy_within (pad 16 (pos 0) l) 1 16 0 = rw (e, length_pad 16 (pos 0) l) in
+    let same : copy_within c.args.values 1 (length c.args.values) 0 ≡ copy_within (pad 16 (pos 0) l) 1 16 0 =
+    rw (e, length_pad 16 (pos 0) l) in
     ap (λ (r : List Value). set r 15 (pos 0)) (c.copy_within.ensures.after ∙ same)
     ∙ behind_pad 15 (pos 0) l h

@@ -29,5 +29,6 @@ returns c =
     let m = c.args.m.now in
     let counts = c.standing_counts-counts.result in
     let once : ℕ → Bool = λ e. eqb (get_or counts e 0 + given_up (end_at (view m) e)) (in_use (end_at (view m) e)) in
-    all_from_yields_List once _ _ _ c.all.ensures.ran (YieldsList-from_range 0 end_count end_count (cc) refl) (λ x b q k. search (rules, tests))
+    all_from_yields_List once _ _ _ c.all.ensures.ran (YieldsList-from_range 0 end_count end_count (cc) refl)
+    (λ x b q k. search (rules, tests))
     ∙ every_all once (places_test (view m)) end_count (λ e h. places_test_lem m e refl (c.standing_counts-counts.ensures.counted e h))

@@ -12,5 +12,6 @@ use Rattle.soundness.proofs.pairs.ends_are_paired.Goals as goal
 pub returns : goal.returns
 returns c =
     let test = paired_test (view c.args.m.now) in
-    all_from_yields_List test _ _ _ c.all.ensures.ran (YieldsList-from_range 0 end_count end_count (cc) refl) (λ x b q k. search (rules, tests))
+    all_from_yields_List test _ _ _ c.all.ensures.ran (YieldsList-from_range 0 end_count end_count (cc) refl)
+    (λ x b q k. search (rules, tests))
     ∙ every_all test test end_count (λ k h. refl)
