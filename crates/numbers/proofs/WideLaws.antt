@@ -60,6 +60,7 @@ other_outside v h = go (outside v) refl
     small : (z : ℤ) → outside z ≡ false → SFits w32 z
     small (pos n) e = record { sfits = omega (arith, leb-false value_bound n e) }
     small (negsuc n) e = record { sfits = omega (arith, leb-false value_bound n e) }
+
     go : (b : Bool) → outside v ≡ b → outside v ≡ true
     go true e = e
     go false e = absurd (h (small v e))
