@@ -74,7 +74,7 @@ pub fn step_record(n: u32, state: &mut [u8], out: &mut [u8]) -> usize
     put_step(out, b"R ", n, reply)
 }
 
-// `E n`: an end is asked to step.
+// `E n`: an end is asked to step. It reads like `step_record`, but each promises what its own definition says.
 pub fn step_end(n: u32, state: &mut [u8], out: &mut [u8]) -> usize
     requires { length (end_answered state.old n) ≤ length out.old }
     ensures says { Written out.old 0 (end_answered state.old n) out.new result }

@@ -2,7 +2,7 @@
 ghost use Rattle.std.specs.Prelude.{◌≡◌};
 ghost use Rattle.rules.specs.Instruction.{lengths, size_of, form_of};
 
-pub const LENGTHS: [u8; 256] = [
+pub static LENGTHS: [u8; 256] = [
     0, // 00
     5, // 01 cst
     2, // 02 access
@@ -261,11 +261,11 @@ pub const LENGTHS: [u8; 256] = [
     0, // FF
 ];
 
-// The table as a value.
-pub fn length_table() -> [u8; 256]
-    ensures { result ≡ lengths }
+// The table where it stands, so that no decode copies it.
+pub fn length_table() -> &'static [u8; 256]
+    ensures { result.now ≡ lengths }
 {
-    LENGTHS
+    &LENGTHS
 }
 
 // The table's row of a first byte.

@@ -43,7 +43,8 @@ pub fn ask_record(state: &mut [u8], record: u32) -> Result<(), Refusal>
     asking::step_record(state, record)
 }
 
-// An end is asked to step: 24, 1, 16 to 19, or done. Any number may be asked.
+// An end is asked to step: 24, 1, 16 to 19, or done. Any number may be asked. It reads like `ask_record`, but each promises what its own
+// definition says.
 pub fn ask_end(state: &mut [u8], end: u32) -> Result<(), Refusal>
     ensures { Promise (reply_to (end_answer state.old end)) (call_end state.old end).memory
         (answer_of result) state.new }

@@ -18,7 +18,8 @@ use crate::wide::{at_most, product, sum};
 use registers::Registers;
 use rules::{Record, Refusal};
 
-// What is made of the two values on top.
+// What is made of the two values on top. The three are named, since the promise of `make` goes by the name; with a closure it would have to
+// say what that answers for each pair of values.
 #[derive(Clone, Copy)]
 enum Made {
     Sum,

@@ -1,6 +1,6 @@
 // What a line says of a step.
 
-// The instruction whose first byte this is, or what was delivered at an end.
+// The instruction whose first byte this is, as it stands in the code and is not decoded for its name, or what was delivered at an end.
 #[derive(Clone, Copy)]
 pub enum Kind {
     Instruction(u8),

@@ -9,7 +9,7 @@ use crate::kinds::Kind;
 use runner::Verdict;
 use text::put_bytes;
 
-const WORDS: [&[u8]; 24] = [
+static WORDS: [&[u8]; 24] = [
     b"cst",
     b"access",
     b"store",
@@ -36,11 +36,11 @@ const WORDS: [&[u8]; 24] = [
     b"stuck",
 ];
 
-// The table as a value.
-fn words() -> [&'static [u8]; 24]
-    ensures { letters result ≡ line_words }
+// The table where it stands.
+fn words() -> &'static [&'static [u8]; 24]
+    ensures { letters result.now ≡ line_words }
 {
-    WORDS
+    &WORDS
 }
 
 // The word in a row.

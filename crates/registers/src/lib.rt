@@ -27,9 +27,9 @@ pub struct Registers {
     pub place: u16,
     pub stack_count: u8,
     pub environment_count: u8,
-    // 0 for an empty slot, else the end's number and one
+    // 0 for an empty slot, else the end's number and one: the bytes of the state memory, loaded and saved as they are; `end_in` answers an Option
     pub slots: [u8; SLOT_COUNT],
-    // top first, zeros behind the count
+    // top first, zeros behind the count: arrays of fixed length with their counts, since the machine allocates nothing
     pub stack: [i32; STACK_DEPTH],
     // newest first, zeros behind the count
     pub environment: [i32; ENVIRONMENT_DEPTH],

@@ -52,7 +52,7 @@ impl Registers {
         }
     }
 
-    // The value on top, 0 of an empty stack.
+    // The value on top, 0 of an empty stack, as `top` of the rules has it.
     pub fn top(self) -> i32
         ensures { (g : Process) → self ≡ registers_of g → result ≡ top g }
     {
@@ -60,7 +60,7 @@ impl Registers {
         values[0]
     }
 
-    // The value below the top, 0 where there is none.
+    // The value below the top, 0 where there is none, as `below` of the rules has it.
     pub fn below(self) -> i32
         ensures { (g : Process) → self ≡ registers_of g → result ≡ below g }
     {

@@ -101,22 +101,15 @@ pub fn environment_value(m: &[u8], r: Record, n: u8) -> i32
 }
 
 // The numbers at the front of a record.
-fn write_numbers(
-    m: &mut [u8],
-    at: usize,
-    status: u8,
-    place: u16,
-    stack_count: u8,
-    environment_count: u8,
-)
+fn write_numbers(m: &mut [u8], at: usize, status: Status, x: Registers)
     requires { at + 5 ≤ length m.old }
     ensures { m.new ≡ put_at m.old at
-        (status ∷ (bytes_of 2 place ++ (stack_count ∷ environment_count ∷ []))) }
+        (status_byte status ∷ (bytes_of 2 x.place ++ (x.stack_count ∷ x.environment_count ∷ []))) }
 {
-    words::put8(m, at, status);
-    words::put16(m, at + PLACE_FROM, place);
-    words::put8(m, at + STACK_COUNT_FROM, stack_count);
-    words::put8(m, at + ENVIRONMENT_COUNT_FROM, environment_count);
+    words::put8(m, at, status_byte(status));
+    words::put16(m, at + PLACE_FROM, x.place);
+    words::put8(m, at + STACK_COUNT_FROM, x.stack_count);
+    words::put8(m, at + ENVIRONMENT_COUNT_FROM, x.environment_count);
 }
 
 // Record r gets a status and registers.
@@ -126,14 +119,7 @@ fn save(m: &mut [u8], r: Record, status: Status, x: Registers)
         → m.new ≡ put_at m.old (records_at + record_size * record_number r) (status_byte status ∷ registers_bytes g) }
 {
     let at = start_of(r);
-    write_numbers(
-        m,
-        at,
-        status_byte(status),
-        x.place,
-        x.stack_count,
-        x.environment_count,
-    );
+    write_numbers(m, at, status, x);
     let held = x.slots;
     slots::write(m, at + SLOTS_FROM, held);
     let stack = x.stack;

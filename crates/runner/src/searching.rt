@@ -26,7 +26,7 @@ pub fn position_after(p: u32) -> u32
     p + 1
 }
 
-// The first record from one on that runs; the first end's position where none does.
+// The first record from one on that runs; the first end's position where none does, from which the search goes on.
 fn next_running(m: &[u8], from: u32) -> u32
     requires { (length m.now ≡ state_size) × (from ≤ record_count) × SoundMemory m.now }
     ensures { PassedTo (view m.now) from result record_count }

@@ -5,7 +5,7 @@ ghost use Rattle.text.specs.Written.{Written};
 ghost use Rattle.text.specs.Digits.{length_before, digit_value, all_digits, value_behind, only_if, number_in, is_hex, hex_bytes};
 ghost use Rattle.text.specs.Read.{number_read};
 
-// How many bytes stand in front of the first `stop`; all where there is none.
+// How many bytes stand in front of the first `stop`; all where there is none, as the definition has it.
 pub fn length_before(text: &[u8], stop: u8) -> usize
     ensures is { result ≡ length_before stop text.now }
     ensures within { result ≤ length text.now }
@@ -13,7 +13,7 @@ pub fn length_before(text: &[u8], stop: u8) -> usize
     text.iter().position(|b| *b == stop).unwrap_or(text.len())
 }
 
-// The value of a digit, 16 for a byte that is none.
+// The value of a digit; 16, as in the definition, for a byte that is none, so that one test against a base serves both.
 #[tactic(auto, using(crate::proofs::Words::digit_arms))]
 fn digit_value(b: u8) -> u8
     ensures { result ≡ digit_value b }

@@ -7,5 +7,5 @@ use Rattle.printed.proofs.line_words.word.Goals as goal
 pub returns : goal.returns
 unfolding word_text
 returns c =
-    sym (get_or-map (λ (word : Bor (List ℕ)). word.now) c.words.result c.args.row _)
+    sym (get_or-map (λ (word : Bor (List ℕ)). word.now) c.words.result.now c.args.row _)
     ∙ ap (λ (all : List (List ℕ)). get_or all c.args.row []) c.words.ensures
