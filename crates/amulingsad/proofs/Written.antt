@@ -34,7 +34,8 @@ pub record MadeRun (a : Answer rules.Ran) (steps next : ℕ) (v : Verdict) : Typ
   pub next_is : (before : ℕ) → next ≡ next_or before a
   pub verdict_is : (before : ℕ) → verdict_number v ≡ verdict_or before a
 
-pub made_run : (a : Answer rules.Ran) (steps next : ℕ) (v : Verdict) → done (record { steps = steps; next = next; verdict = v }) ≡ ran_reply a → MadeRun a steps next v
+pub made_run : (a : Answer rules.Ran) (steps next : ℕ) (v : Verdict) → done (record { steps = steps; next = next; verdict = v })
+    ≡ ran_reply a → MadeRun a steps next v
 made_run (refused k) steps next v e = absurd (omega (arith, ap is_refused e))
 made_run (done ran) steps next v e = record {
   number_is = refl;

@@ -84,7 +84,8 @@ pub fn halt(held: Registers, c: Slot) -> Result<(), Refusal>
 
 // Whatever handle is put.
 pub fn hput(held: Registers, c: Slot) -> Result<(), Refusal>
-    ensures { (g : Process) (n : ℕ) → RegistersWithin g → held ≡ registers_of g → answer_of result ≡ own_reply g (hput_of (slot_number c) n) }
+    ensures { (g : Process) (n : ℕ) → RegistersWithin g → held ≡ registers_of g → answer_of result
+        ≡ own_reply g (hput_of (slot_number c) n) }
 {
     rows::held_slot(held, c)
 }

@@ -149,7 +149,8 @@ fn with_number(name: Name, first: u32, word: &[u8]) -> Option<Command>
 // The word in front of the first space, and what stands behind that.
 fn split_word(words: &[u8]) -> Option<(&[u8], &[u8])>
     ensures { MatchOption result (length_before space words.now ≡ length words.now)
-        (λ parts. (length_before space words.now < length words.now) × (parts.0.now ≡ first_word words.now) × (parts.1.now ≡ behind_word words.now)) }
+        (λ parts. (length_before space words.now < length words.now) × (parts.0.now ≡ first_word words.now)
+        × (parts.1.now ≡ behind_word words.now)) }
 {
     let n = length_before(words, SPACE);
     if n == words.len() {

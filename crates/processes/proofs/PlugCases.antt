@@ -24,20 +24,21 @@ use Rattle.processes.specs.Spare.{Spare}
 
 -- ---- answers
 
-module _ (st : State) (r next : ℕ) (g : Registers) (a m place m' place' : ℕ) (passes : own_reply g (plug a m place m' place') ≡ done tt) where
-  pub too_few_ends : few_free_ends 2 st ≡ true → answer_to st r next g (plug a m place m' place') ≡ refused 15
-  unfolding shared_causes unless
-  too_few_ends t = own_done st r next g (plug a m place m' place') passes ∙ rw t
+module _ (st : State) (r next : ℕ) (g : Registers) (a m place m' place' : ℕ) (passes : own_reply g (plug a m place m' place') ≡ done tt)
+  where
+    pub too_few_ends : few_free_ends 2 st ≡ true → answer_to st r next g (plug a m place m' place') ≡ refused 15
+    unfolding shared_causes unless
+    too_few_ends t = own_done st r next g (plug a m place m' place') passes ∙ rw t
 
-  pub no_free_record_lem : few_free_ends 2 st ≡ false → no_free_record st ≡ true
-      → answer_to st r next g (plug a m place m' place') ≡ refused 15
-  unfolding shared_causes unless
-  no_free_record_lem f t = own_done st r next g (plug a m place m' place') passes ∙ rw (f, t)
+    pub no_free_record_lem : few_free_ends 2 st ≡ false → no_free_record st ≡ true
+        → answer_to st r next g (plug a m place m' place') ≡ refused 15
+    unfolding shared_causes unless
+    no_free_record_lem f t = own_done st r next g (plug a m place m' place') passes ∙ rw (f, t)
 
-  pub plugged : few_free_ends 2 st ≡ false → no_free_record st ≡ false
-      → answer_to st r next g (plug a m place m' place') ≡ done (after st r next g (lowest_free st) (plug a m place m' place'))
-  unfolding shared_causes unless
-  plugged f n = own_done st r next g (plug a m place m' place') passes ∙ rw (f, n)
+    pub plugged : few_free_ends 2 st ≡ false → no_free_record st ≡ false
+        → answer_to st r next g (plug a m place m' place') ≡ done (after st r next g (lowest_free st) (plug a m place m' place'))
+    unfolding shared_causes unless
+    plugged f n = own_done st r next g (plug a m place m' place') passes ∙ rw (f, n)
 
 -- ---- what is free
 

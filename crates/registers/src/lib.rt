@@ -27,7 +27,8 @@ pub struct Registers {
     pub place: u16,
     pub stack_count: u8,
     pub environment_count: u8,
-    // 0 for an empty slot, else the end's number and one: the bytes of the state memory, loaded and saved as they are; `end_in` answers an Option
+    // 0 for an empty slot, else the end's number and one: the bytes of the state memory, loaded and saved as they are; `end_in` makes an
+    // Option of one
     pub slots: [u8; SLOT_COUNT],
     // top first, zeros behind the count: arrays of fixed length with their counts, since the machine allocates nothing
     pub stack: [i32; STACK_DEPTH],

@@ -27,7 +27,8 @@ left_sound end = subst SoundMemory (sym end.left_is) (sound_layout _ end.reached
 
 module _ (m : List ℕ) (budget start : ℕ) where
   -- the promise of an answer that is known
-  promised : {r : Answer Ran} {left : List ℕ} (a : Answer rules.Ran) → run_answer m budget start ≡ a → r ≡ ran_reply a → left ≡ reached_or m a
+  promised : {r : Answer Ran} {left : List ℕ} (a : Answer rules.Ran) → run_answer m budget start ≡ a → r ≡ ran_reply a → left
+      ≡ reached_or m a
       → Promise (ran_reply (run_answer m budget start)) (call_run m budget start).memory r left
   unfolding call_run
   promised a e q z = rw e (record { answer_is = q; memory_is = z })
@@ -44,7 +45,8 @@ module _ (m : List ℕ) (budget start : ℕ) where
 
   pub ran : SoundMemory m → start < position_count → {made next : ℕ} {v : Verdict} {left : List ℕ}
       → Ended (view m) start (steps budget (view m) start) made next left → v ≡ verdict_code (verdict_of (view left))
-      → Promise (ran_reply (run_answer m budget start)) (call_run m budget start).memory (done (record { steps = made; next = next; verdict = v })) left
+      → Promise (ran_reply (run_answer m budget start)) (call_run m budget start).memory
+      (done (record { steps = made; next = next; verdict = v })) left
   unfolding run_answer unless run_from ran_by
   ran s h {made} {next} {v} {left} end e =
       let reached = reached_by (view m) (steps budget (view m) start) in

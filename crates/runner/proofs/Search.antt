@@ -278,7 +278,8 @@ module _ (m : List ℕ) (p : ℕ) (h : p < position_count) where
 
   -- a step was made from p on
   pub made_above : {q : ℕ} {left : List ℕ}
-      → Promise (stepped_by (first_of (position_count - p) (view m) p)) (memory_by m (first_of (position_count - p) (view m) p)) (Some q) left
+      → Promise (stepped_by (first_of (position_count - p) (view m) p)) (memory_by m (first_of (position_count - p) (view m) p))
+      (Some q) left
       → Next (Some q) left
   made_above {q} {left} made = go (first_of (position_count - p) (view m) p) refl
     where

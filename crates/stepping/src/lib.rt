@@ -14,8 +14,8 @@ ghost use Rattle.registers.specs.Registers.{registers_of};
 use registers::Registers;
 use rules::{END_COUNT, End, Slot};
 
-// The translation of a local slot to an end. An empty slot stands for no end: the answer is then the number of ends, as `end_in` of the rules
-// has it. It is no Option, since each caller has refused an empty slot before, and would have a case that cannot come.
+// The translation of a local slot to an end. An empty slot stands for no end: the answer is then the number of ends, as `end_in` of the
+// rules has it. It is no Option, since each caller has refused an empty slot before, and would have a case that cannot come.
 pub fn own_end(held: Registers, c: Slot) -> End
     ensures { (g : Process) → RegistersWithin g → held ≡ registers_of g → end_number result ≡ end_in g (slot_number c) }
 {

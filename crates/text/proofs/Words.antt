@@ -70,7 +70,14 @@ module _ (b : ℕ) where
   pub digit_behind : 103 ≤ b → 16 ≡ digit_value b
   unfolding digit_value
   digit_behind h =
-      rw (le-ltb b 48 (omega arith), le-ltb b 58 (omega arith), le-ltb b 65 (omega arith), le-ltb b 71 (omega arith), le-ltb b 97 (omega arith))
+      rw (
+        le-ltb b 48 (omega arith),
+        le-ltb b 58 (omega arith),
+        le-ltb b 65 (omega arith),
+        le-ltb b 71 (omega arith),
+        le-ltb b 97
+            (omega arith),
+      )
       (rw (le-ltb b 103 h))
 
 -- the arms of the code that reads a digit

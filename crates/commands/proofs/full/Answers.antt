@@ -14,11 +14,13 @@ returns-in-Write-clause-is c = c.with_bytes-in-Write.ensures.is ∙ ap (λ (n : 
 
 pub returns-in-Record-clause-is : goal.returns-in-Record-clause-is
 unfolding full_asked
-returns-in-Record-clause-is c = c.with_number.ensures.is c.args.bytes.now ∙ ap (λ (n : Name). full_asked n c.args.words.now) (sym c.in-Record.is)
+returns-in-Record-clause-is c = c.with_number.ensures.is c.args.bytes.now
+    ∙ ap (λ (n : Name). full_asked n c.args.words.now) (sym c.in-Record.is)
 
 pub returns-in-End-clause-is : goal.returns-in-End-clause-is
 unfolding full_asked
-returns-in-End-clause-is c = c.with_number-in-End.ensures.is c.args.bytes.now ∙ ap (λ (n : Name). full_asked n c.args.words.now) (sym c.in-End.is)
+returns-in-End-clause-is c = c.with_number-in-End.ensures.is c.args.bytes.now
+    ∙ ap (λ (n : Name). full_asked n c.args.words.now) (sym c.in-End.is)
 
 pub returns-in-Run-clause-is : goal.returns-in-Run-clause-is
 unfolding full_asked
@@ -26,4 +28,5 @@ returns-in-Run-clause-is c = c.with_numbers.ensures.is c.args.bytes.now ∙ ap (
 
 pub returns-in-Peek-clause-is : goal.returns-in-Peek-clause-is
 unfolding full_asked
-returns-in-Peek-clause-is c = c.with_numbers-in-Peek.ensures.is c.args.bytes.now ∙ ap (λ (n : Name). full_asked n c.args.words.now) (sym c.in-Peek.is)
+returns-in-Peek-clause-is c = c.with_numbers-in-Peek.ensures.is c.args.bytes.now
+    ∙ ap (λ (n : Name). full_asked n c.args.words.now) (sym c.in-Peek.is)

@@ -7,12 +7,14 @@ use Rattle.rules.specs.Causes.{own_causes, stack_not_empty}
 use Rattle.causes.specs.Own.{rows_reply}
 use Rattle.causes.proofs.OwnRows.{three_rows, first_refuse, first_pass}
 use Rattle.causes.proofs.channels.fork.Goals as goal
-use Rattle.causes.proofs.channels.fork.Goals.{then-in_set-via-then-in_set, then-in_set-via-else-in_set+then-in_set-2, then-overlap-via-then-overlap, then-overlap-via-else-overlap+then-others_not_together}
+use Rattle.causes.proofs.channels.fork.Goals.{then-in_set-via-then-in_set, then-in_set-via-else-in_set+then-in_set-2}
+use Rattle.causes.proofs.channels.fork.Goals.{then-overlap-via-then-overlap, then-overlap-via-else-overlap+then-others_not_together}
 
 -- the rows behind those of its slots' numbers and of c
 abbrev behind : (c a b m n : ℕ) → Registers → List Row
 behind c a b m n g =
-    (8, in_set m a) ∷ (8, in_set n b) ∷ (10, overlap m n g.slots) ∷ (10, not_together m n (emptied g.slots c)) ∷ (11, stack_not_empty g) ∷ []
+    (8, in_set m a) ∷ (8, in_set n b) ∷ (10, overlap m n g.slots) ∷ (10, not_together m n (emptied g.slots c)) ∷ (11, stack_not_empty g)
+    ∷ []
 
 pub returns-in_err-three_slots : goal.returns-in_err-three_slots
 unfolding own_causes
@@ -28,7 +30,8 @@ returns-then-in_set c g w e =
       | then-in_set-via-then-in_set k ↦ rw (sym k.if-in_set.ensures) refl
       | then-in_set-via-else-in_set+then-in_set-2 k ↦ rw (sym k.if-in_set.ensures, sym k.if-in_set-2.ensures) refl
     ] in
-    rest ∙ first_pass (three_rows a.c.0 a.a.0 a.b.0 g) (behind a.c.0 a.a.0 a.b.0 a.first.set a.second.set g) (c.in_ok-three_slots.ensures.is g w e)
+    rest ∙ first_pass (three_rows a.c.0 a.a.0 a.b.0 g) (behind a.c.0 a.a.0 a.b.0 a.first.set a.second.set g)
+    (c.in_ok-three_slots.ensures.is g w e)
 
 pub returns-then-overlap : goal.returns-then-overlap
 unfolding own_causes unless
@@ -45,7 +48,8 @@ returns-then-overlap c g w e =
             sym (k.if-others_not_together.ensures g w e),
           ) refl
     ] in
-    rest ∙ first_pass (three_rows a.c.0 a.a.0 a.b.0 g) (behind a.c.0 a.a.0 a.b.0 a.first.set a.second.set g) (c.in_ok-three_slots.ensures.is g w e)
+    rest ∙ first_pass (three_rows a.c.0 a.a.0 a.b.0 g) (behind a.c.0 a.a.0 a.b.0 a.first.set a.second.set g)
+    (c.in_ok-three_slots.ensures.is g w e)
 
 pub returns : goal.returns
 unfolding own_causes unless
@@ -58,4 +62,5 @@ returns c g w e =
       sym (c.if-overlap.ensures g.slots w.slots_within),
       sym (c.if-others_not_together.ensures g w e),
     ) (c.empty_stack.ensures g w e) in
-    rest ∙ first_pass (three_rows a.c.0 a.a.0 a.b.0 g) (behind a.c.0 a.a.0 a.b.0 a.first.set a.second.set g) (c.in_ok-three_slots.ensures.is g w e)
+    rest ∙ first_pass (three_rows a.c.0 a.a.0 a.b.0 g) (behind a.c.0 a.a.0 a.b.0 a.first.set a.second.set g)
+    (c.in_ok-three_slots.ensures.is g w e)

@@ -6,7 +6,8 @@ use Rattle.rules.specs.Causes.{own_causes, taken, stack_not_empty}
 use Rattle.causes.specs.Own.{rows_reply}
 use Rattle.causes.proofs.OwnRows.{three_rows, first_refuse, first_pass}
 use Rattle.causes.proofs.channels.split.Goals as goal
-use Rattle.causes.proofs.channels.split.Goals.{then-eq-via-then-eq, then-eq-via-else-eq+then-taken, then-eq-via-else-eq+else-taken+then-taken-2}
+use Rattle.causes.proofs.channels.split.Goals.{then-eq-via-then-eq, then-eq-via-else-eq+then-taken}
+use Rattle.causes.proofs.channels.split.Goals.{then-eq-via-else-eq+else-taken+then-taken-2}
 
 -- the rows behind those of its slots' numbers and of c
 abbrev behind : (c a b : ℕ) → Registers → List Row

@@ -3,7 +3,9 @@ use Rattle.std.proofs.Common.{refl, sym}
 use Rattle.rules.specs.Refusal.{unless}
 use Rattle.rules.specs.Causes.{own_causes}
 use Rattle.causes.proofs.processes.plug.Goals as goal
-use Rattle.causes.proofs.processes.plug.Goals.{then-over-via-then-over, then-over-via-else-over+then-in_set, then-over-via-else-over+else-in_set+then-in_set-2, then-overlap-via-then-overlap, then-overlap-via-else-overlap+then-not_together}
+use Rattle.causes.proofs.processes.plug.Goals.{then-over-via-then-over, then-over-via-else-over+then-in_set}
+use Rattle.causes.proofs.processes.plug.Goals.{then-over-via-else-over+else-in_set+then-in_set-2, then-overlap-via-then-overlap}
+use Rattle.causes.proofs.processes.plug.Goals.{then-overlap-via-else-overlap+then-not_together}
 
 pub returns-then-over : goal.returns-then-over
 unfolding own_causes unless

@@ -3,7 +3,9 @@ use Rattle.std.proofs.Common.{refl, sym}
 use Rattle.rules.specs.Refusal.{unless}
 use Rattle.rules.specs.Causes.{own_causes}
 use Rattle.causes.proofs.processes.run.Goals as goal
-use Rattle.causes.proofs.processes.run.Goals.{then-any_over-via-then-any_over, then-any_over-via-else-any_over+then-any_empty, then-any_repeated-via-then-any_repeated, then-any_repeated-via-else-any_repeated+then-any_held_but}
+use Rattle.causes.proofs.processes.run.Goals.{then-any_over-via-then-any_over, then-any_over-via-else-any_over+then-any_empty}
+use Rattle.causes.proofs.processes.run.Goals.{then-any_repeated-via-then-any_repeated}
+use Rattle.causes.proofs.processes.run.Goals.{then-any_repeated-via-else-any_repeated+then-any_held_but}
 
 pub returns-then-fewer : goal.returns-then-fewer
 unfolding own_causes unless

@@ -3,7 +3,9 @@ use Rattle.std.proofs.Common.{refl, sym}
 use Rattle.rules.specs.Refusal.{unless}
 use Rattle.rules.specs.Causes.{own_causes}
 use Rattle.causes.proofs.processes.same.Goals as goal
-use Rattle.causes.proofs.processes.same.Goals.{then-over-via-then-over, then-over-via-else-over+then-over-2, then-over-via-else-over+else-over-2+then-empty, then-over-via-else-over+else-over-2+else-empty+then-empty-2}
+use Rattle.causes.proofs.processes.same.Goals.{then-over-via-then-over, then-over-via-else-over+then-over-2}
+use Rattle.causes.proofs.processes.same.Goals.{then-over-via-else-over+else-over-2+then-empty}
+use Rattle.causes.proofs.processes.same.Goals.{then-over-via-else-over+else-over-2+else-empty+then-empty-2}
 
 pub returns-then-over : goal.returns-then-over
 unfolding own_causes unless

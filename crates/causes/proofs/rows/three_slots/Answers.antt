@@ -2,7 +2,9 @@
 use Rattle.std.proofs.Common.{refl, sym}
 use Rattle.rules.specs.Refusal.{unless}
 use Rattle.causes.proofs.rows.three_slots.Goals as goal
-use Rattle.causes.proofs.rows.three_slots.Goals.{then-over-via-then-over, then-over-via-else-over+then-over-2, then-over-via-else-over+else-over-2+then-over-3, then-over-via-else-over+else-over-2+else-over-3+then-empty}
+use Rattle.causes.proofs.rows.three_slots.Goals.{then-over-via-then-over, then-over-via-else-over+then-over-2}
+use Rattle.causes.proofs.rows.three_slots.Goals.{then-over-via-else-over+else-over-2+then-over-3}
+use Rattle.causes.proofs.rows.three_slots.Goals.{then-over-via-else-over+else-over-2+else-over-3+then-empty}
 
 pub returns-then-over-clause-is : goal.returns-then-over-clause-is
 unfolding unless

@@ -31,7 +31,8 @@ pub returns-in_err-append : goal.returns-in_err-append
 unfolding shared_causes
 returns-in_err-append c next g is =
     let b = passed (goal.at.returns-in_err-append c).In_ok-halt in
-    full_step _ _ c.from_residual-in_err-append.ensures.1 (c.in_err-append.ensures _ g (runs_here b _ (halt_named _) g is)) _ (shared_left b g is _)
+    full_step _ _ c.from_residual-in_err-append.ensures.1 (c.in_err-append.ensures _ g (runs_here b _ (halt_named _) g is)) _
+    (shared_left b g is _)
 
 pub clear-requires : goal.clear-requires
 clear-requires c = (c.append.auto.m ∙ memory_length _ c.requires.0, c.requires.1)

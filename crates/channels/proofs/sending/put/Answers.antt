@@ -49,7 +49,8 @@ pub returns-in_err-append : goal.returns-in_err-append
 unfolding shared_causes
 returns-in_err-append c g is =
     let b = passed (goal.at.returns-in_err-append c).In_ok-put in
-    full_step _ _ c.from_residual-in_err-append.ensures.1 (c.in_err-append.ensures _ g (runs_here b _ (put_named _) g is)) _ (shared_left b g is _)
+    full_step _ _ c.from_residual-in_err-append.ensures.1 (c.in_err-append.ensures _ g (runs_here b _ (put_named _) g is)) _
+    (shared_left b g is _)
 
 pub save_running-requires : goal.save_running-requires
 save_running-requires c = (c.append.auto.m ∙ memory_length _ c.requires.0, c.requires.1)

@@ -115,7 +115,8 @@ returns-in-1 c =
 
 pub returns-in-2 : goal.returns-in-2
 unfolding form_of form_in instruction_at
-returns-in-2 c = rw c.found-in-2.ensures (arm (goal.at.returns-in-2 c).Start 0x02 refl (omega arith) c.in-2.is (λ i. access (c.byte_at.ensures i)))
+returns-in-2 c = rw c.found-in-2.ensures (arm (goal.at.returns-in-2 c).Start 0x02 refl (omega arith) c.in-2.is
+    (λ i. access (c.byte_at.ensures i)))
 
 pub returns-in-3 : goal.returns-in-3
 unfolding form_of form_in instruction_at
@@ -135,11 +136,13 @@ returns-in-6 c = rw c.found-in-6.ensures (arm (goal.at.returns-in-6 c).Start 0x0
 
 pub returns-in-16 : goal.returns-in-16
 unfolding form_of form_in instruction_at
-returns-in-16 c = rw c.found-in-16.ensures (arm (goal.at.returns-in-16 c).Start 0x10 refl (omega arith) c.in-16.is (λ i. put (c.slot_at.ensures i)))
+returns-in-16 c = rw c.found-in-16.ensures (arm (goal.at.returns-in-16 c).Start 0x10 refl (omega arith) c.in-16.is
+    (λ i. put (c.slot_at.ensures i)))
 
 pub returns-in-17 : goal.returns-in-17
 unfolding form_of form_in instruction_at
-returns-in-17 c = rw c.found-in-17.ensures (arm (goal.at.returns-in-17 c).Start 0x11 refl (omega arith) c.in-17.is (λ i. get (c.slot_at-in-17.ensures i)))
+returns-in-17 c = rw c.found-in-17.ensures (arm (goal.at.returns-in-17 c).Start 0x11 refl (omega arith) c.in-17.is
+    (λ i. get (c.slot_at-in-17.ensures i)))
 
 pub returns-in-18 : goal.returns-in-18
 unfolding form_of form_in instruction_at
@@ -155,11 +158,13 @@ returns-in-20 c = rw c.found-in-20.ensures (arm (goal.at.returns-in-20 c).Start 
 
 pub returns-in-21 : goal.returns-in-21
 unfolding form_of form_in instruction_at
-returns-in-21 c = rw c.found-in-21.ensures (arm (goal.at.returns-in-21 c).Start 0x15 refl (omega arith) c.in-21.is (λ i. close (c.slot_at-in-21.ensures i)))
+returns-in-21 c = rw c.found-in-21.ensures (arm (goal.at.returns-in-21 c).Start 0x15 refl (omega arith) c.in-21.is
+    (λ i. close (c.slot_at-in-21.ensures i)))
 
 pub returns-in-22 : goal.returns-in-22
 unfolding form_of form_in instruction_at
-returns-in-22 c = rw c.found-in-22.ensures (arm (goal.at.returns-in-22 c).Start 0x16 refl (omega arith) c.in-22.is (λ i. halt (c.slot_at-in-22.ensures i)))
+returns-in-22 c = rw c.found-in-22.ensures (arm (goal.at.returns-in-22 c).Start 0x16 refl (omega arith) c.in-22.is
+    (λ i. halt (c.slot_at-in-22.ensures i)))
 
 pub returns-in-23 : goal.returns-in-23
 unfolding form_of form_in instruction_at

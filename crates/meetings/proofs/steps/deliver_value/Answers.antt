@@ -55,7 +55,8 @@ push-pushed-requires c =
     let code = (view c.args.m.now).code in
     let f = found_here (goal.at.push-pushed-requires c).After-wanted_at in
     let w = f.waits in
-    let room = w.room _ (f.wanted_is ∙ ap (wanted_of code w.held.place) (c.in-Some-Value.is ∙ ap (λ (w : Wanted). Some w) c.in-Some-Value.field-0-is)) in
+    let room = w.room _ (f.wanted_is ∙ ap (wanted_of code w.held.place)
+    (c.in-Some-Value.is ∙ ap (λ (w : Wanted). Some w) c.in-Some-Value.field-0-is)) in
     omega (arith, room, (by_fields w.held f.loaded).stack_count_is)
 
 pub take_both-requires : goal.take_both-requires

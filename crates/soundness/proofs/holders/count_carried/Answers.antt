@@ -16,19 +16,23 @@ first : (c : After-add_one)
     → Added end_count (λ (e : ℕ). δ e c.from.result)
     c.args.counts.now c.add_one.new.counts
 first c =
-    let within = split_within (c.in-Some-Split.is ∙ ap (λ (x : Last). Some x) (rw c.in-Some-Split.is at c.in-Some-Split.field-0-is)) c.requires.1 in
+    let within = split_within (c.in-Some-Split.is ∙ ap (λ (x : Last). Some x) (rw c.in-Some-Split.is at c.in-Some-Split.field-0-is))
+    c.requires.1 in
     added_one end_count c.from.result c.args.counts.now c.requires.0 (omega (arith, c.from.ensures, within.0))
     c.add_one.ensures
 
 pub add_one-requires : goal.add_one-requires
 add_one-requires c =
-    let within = split_within (c.in-Some-Split.is ∙ ap (λ (x : Last). Some x) (rw c.in-Some-Split.is at c.in-Some-Split.field-0-is)) c.requires.1 in
+    let within = split_within (c.in-Some-Split.is ∙ ap (λ (x : Last). Some x) (rw c.in-Some-Split.is at c.in-Some-Split.field-0-is))
+    c.requires.1 in
     (omega (arith, c.from.ensures, within.0), omega (arith, c.requires.2 c.from.result))
 
 pub add_one-requires-in-Some-Split : goal.add_one-requires-in-Some-Split
 add_one-requires-in-Some-Split c =
-    let within = split_within (c.in-Some-Split.is ∙ ap (λ (x : Last). Some x) (rw c.in-Some-Split.is at c.in-Some-Split.field-0-is)) c.requires.1 in
-    let small = added_below places_in_all 1 (places_in_all + 1) (first (goal.at.add_one-requires-in-Some-Split c).After-add_one) (omega arith)
+    let within = split_within (c.in-Some-Split.is ∙ ap (λ (x : Last). Some x) (rw c.in-Some-Split.is at c.in-Some-Split.field-0-is))
+    c.requires.1 in
+    let small = added_below places_in_all 1 (places_in_all + 1) (first (goal.at.add_one-requires-in-Some-Split c).After-add_one)
+    (omega arith)
     c.requires.2
     (one_few c.from.result) (omega arith) in
     (omega (arith, c.from-in-Some-Split.ensures, within.1), omega (arith, small c.from-in-Some-Split.result))

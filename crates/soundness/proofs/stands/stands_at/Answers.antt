@@ -67,5 +67,6 @@ returns-in_default-decode c =
 
 pub returns-in_default : goal.returns-in_default
 returns-in_default c =
-    stands_not (view c.args.m.now).code (end_number c.args.e) (shown (goal.at.returns-in_default c).Start) (told (goal.at.returns-in_default c).After-status_of)
+    stands_not (view c.args.m.now).code (end_number c.args.e) (shown (goal.at.returns-in_default c).Start)
+    (told (goal.at.returns-in_default c).After-status_of)
     (opened c.in_default.in_default-own.keys2)

@@ -10,7 +10,8 @@ use Rattle.soundness.proofs.waits.count_wait.Goals as goal
 
 pub add_one-requires : goal.add_one-requires
 add_one-requires c =
-    let within = wait_within (c.in-Some-Wait.is ∙ ap (λ (x : Last). Some x) (rw c.in-Some-Wait.is at c.in-Some-Wait.field-0-is)) c.requires.1 in
+    let within = wait_within (c.in-Some-Wait.is ∙ ap (λ (x : Last). Some x) (rw c.in-Some-Wait.is at c.in-Some-Wait.field-0-is))
+    c.requires.1 in
     (omega (arith, c.from.ensures, within), omega (arith, c.requires.2 c.from.result))
 
 pub returns-in-Some-Wait : goal.returns-in-Some-Wait

@@ -16,4 +16,5 @@ returns-clause-is c =
     position_from_yields_List (λ (b : ℕ). eqb b c.args.stop) _ _ c.position.result c.position.ensures.ran
     (YieldsList-from_slice text cc) (λ x b q k. search (rules, tests))
     in
-    c.unwrap_or.ensures ∙ ap (λ r. unwrap_or r (length text)) found ∙ place_or_length p (length text) (prefix_len-le-length _ text) ∙ sym (before_is c.args.stop text)
+    c.unwrap_or.ensures ∙ ap (λ r. unwrap_or r (length text)) found ∙ place_or_length p (length text) (prefix_len-le-length _ text)
+    ∙ sym (before_is c.args.stop text)
