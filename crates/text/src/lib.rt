@@ -6,5 +6,5 @@
 mod printing;
 mod reading;
 
-pub use printing::{put_bytes, put_decimal, put_hex, put_letter, put_lettered, put_signed};
+pub use printing::Page;
 pub use reading::{is_hex, length_before, read_hex, read_number};

@@ -4,5 +4,4 @@ use Rattle.dump.proofs.HeldSlots.{SlotsSoFar}
 use Rattle.dump.proofs.lists.put_slots.Given as goal
 
 abbrev pub invariant-loop-c : goal.invariant-loop-c
-invariant-loop-c l = (length l.out ≡ length l.initial.out)
-    × SlotsSoFar l.initial.out l.at l.slots l.out l.next l.shown l.c
+invariant-loop-c l = SlotsSoFar l.initial.page l.slots l.page l.shown l.c
