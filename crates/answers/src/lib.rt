@@ -55,5 +55,5 @@ pub fn answer(line: &[u8], state: &mut [u8], bytes: &mut [u8], out: &mut [u8]) -
 {
     let mut page = Page::new(out, 0);
     put_answer(line, state, bytes, &mut page);
-    page.end()
+    page.at
 }

@@ -1,5 +1,4 @@
-// The parts of an answer, printed into a lent buffer at a place. Each function answers the place behind what it printed, and asks for just
-// the room that this takes.
+// The parts of an answer, put on a page. Each function asks for just the room that its text takes.
 ghost use Rattle.std.specs.Prelude.{◌≡◌, ◌++◌, ◌+◌, ◌≤◌, length, take};
 ghost use Rattle.rules.specs.Text.{text as text_of};
 ghost use Rattle.rules.specs.Numbers.{refusal_number};

@@ -89,7 +89,8 @@ module _ {p q : Page} (all : List (List ℕ)) (k : ℕ) (written : Puts p (so_fa
       subst (λ (n : ℕ). Room q (comma_behind n ++ get_or all k d)) count
       (thing_room (take k all) written (get_or all k d) (drop (suc k) all) parts room)
 
-  pub index_more : (d : List ℕ) → k < length all → {r : Page} → Puts q (comma_behind k ++ get_or all k d) r → Puts p (so_far (take (k + 1) all)) r
+  pub index_more : (d : List ℕ) → k < length all → {r : Page} → Puts q (comma_behind k ++ get_or all k d) r
+      → Puts p (so_far (take (k + 1) all)) r
   index_more d h {r} w =
       let count : k ≡ length (take k all) = sym (length-take-le k all (omega arith)) in
       let more : take k all ++ get_or all k d ∷ [] ≡ take (k + 1) all = rw add-one (sym (take-suc all k d h)) in

@@ -1,6 +1,5 @@
 // A state in words, as the console shows it: a line for the code, one for each record in use, one for each end in use, and `end`. What is
-// printed is `state_text` of the state that a sound memory shows. A function asks for just the room that its text takes, and answers the
-// place behind it.
+// printed is `state_text` of the state that a sound memory shows. A function asks for just the room that its text takes.
 
 #![tactic(auto)]
 

@@ -15,12 +15,7 @@ use rules::{Record, STACK_DEPTH};
 use text::Page;
 
 // A word, and the first `count` values.
-fn put_named_values(
-    page: &mut Page,
-    word: &[u8],
-    values: [i32; STACK_DEPTH],
-    count: u8,
-)
+fn put_named_values(page: &mut Page, word: &[u8], values: [i32; STACK_DEPTH], count: u8)
     requires count_le_stack_depth { count ≤ stack_depth }
     requires room { Room page.old (word.now ++ values_text (take count values)) }
     ensures { Puts page.old (word.now ++ values_text (take count values)) page.new }

@@ -79,5 +79,5 @@ pub fn trace(image: &[u8], out: &mut [u8]) -> usize
 {
     let mut page = Page::new(out, 0);
     put_trace(image, &mut page);
-    page.end()
+    page.at
 }

@@ -1,5 +1,6 @@
-// Bytes and numbers as text, for the programs: printing into a lent buffer, and reading what a line says. A function asks for the room that
-// it needs; what is printed is defined in `rules` (specs/Text.antt) and specs/Written.antt, what a text says in specs/Digits.antt.
+// Bytes and numbers as text, for the programs: printing onto a page, which is a lent buffer with a place in it, and reading what a line
+// says. A function asks for the room that it needs (specs/Page.antt); what is printed is defined in `rules` (specs/Text.antt) and
+// specs/Written.antt, what a text says in specs/Digits.antt.
 
 #![tactic(auto)]
 

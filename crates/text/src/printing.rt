@@ -48,7 +48,7 @@ fn hex_digit(d: u8) -> u8
 #[derive(Drop)]
 pub struct Page<'a> {
     out: &'a mut [u8],
-    at: usize,
+    pub at: usize,
 }
 
 impl<'a> Page<'a> {
@@ -59,13 +59,6 @@ impl<'a> Page<'a> {
         ensures begins { result.at ≡ at }
     {
         Page { out, at }
-    }
-
-    // The place behind what is printed.
-    pub fn end(&self) -> usize
-        ensures { result ≡ self.now.at }
-    {
-        self.at
     }
 
     // The bytes as they are.

@@ -15,4 +15,4 @@ pub returns-clause-within : goal.returns-clause-within
 returns-clause-within c =
     let a = c.args in
     let short = answer_short a.line.now a.state.now (asked a.line.now) refl c.requires.0 in
-    omega (arith, short, c.new-page.ensures.begins, c.put_answer.ensures.says.place, c.end.ensures)
+    omega (arith, short, c.new-page.ensures.begins, c.put_answer.ensures.says.place)

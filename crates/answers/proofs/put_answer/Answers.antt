@@ -97,7 +97,10 @@ peek-requires c =
 pub poke-requires : goal.poke-requires
 poke-requires c =
     record {
-      state_len = (size (goal.at.poke-requires c).After-parse, small (goal.at.poke-requires c).After-parse (c.in-Some.is ∙ ap Some c.in-Poke.is));
+      state_len = (
+        size (goal.at.poke-requires c).After-parse,
+        small (goal.at.poke-requires c).After-parse (c.in-Some.is ∙ ap Some c.in-Poke.is),
+      );
       room = room (goal.at.poke-requires c).After-parse (c.in-Some.is ∙ ap Some c.in-Poke.is);
     }
 
@@ -108,16 +111,20 @@ pub returns-in-Remark : goal.returns-in-Remark
 returns-in-Remark c = given (goal.at.returns-in-Remark c).After-parse (c.in-Some.is ∙ ap Some c.in-Remark.is) c.remark.ensures refl
 
 pub returns-in-Load : goal.returns-in-Load
-returns-in-Load c = given (goal.at.returns-in-Load c).After-parse (c.in-Some.is ∙ ap Some c.in-Load.is) c.load.ensures.says c.load.ensures.leaves
+returns-in-Load c =
+    given (goal.at.returns-in-Load c).After-parse (c.in-Some.is ∙ ap Some c.in-Load.is) c.load.ensures.says c.load.ensures.leaves
 
 pub returns-in-Write : goal.returns-in-Write
 returns-in-Write c = given (goal.at.returns-in-Write c).After-parse (c.in-Some.is ∙ ap Some c.in-Write.is) c.write.ensures refl
 
 pub returns-in-Record : goal.returns-in-Record
-returns-in-Record c = given (goal.at.returns-in-Record c).After-parse (c.in-Some.is ∙ ap Some c.in-Record.is) c.step_record.ensures.says c.step_record.ensures.leaves
+returns-in-Record c =
+    given (goal.at.returns-in-Record c).After-parse
+    (c.in-Some.is ∙ ap Some c.in-Record.is) c.step_record.ensures.says c.step_record.ensures.leaves
 
 pub returns-in-End : goal.returns-in-End
-returns-in-End c = given (goal.at.returns-in-End c).After-parse (c.in-Some.is ∙ ap Some c.in-End.is) c.step_end.ensures.says c.step_end.ensures.leaves
+returns-in-End c =
+    given (goal.at.returns-in-End c).After-parse (c.in-Some.is ∙ ap Some c.in-End.is) c.step_end.ensures.says c.step_end.ensures.leaves
 
 pub returns-in-Run : goal.returns-in-Run
 returns-in-Run c = given (goal.at.returns-in-Run c).After-parse (c.in-Some.is ∙ ap Some c.in-Run.is) c.run.ensures.says c.run.ensures.leaves
@@ -132,4 +139,5 @@ pub returns-in-Peek : goal.returns-in-Peek
 returns-in-Peek c = given (goal.at.returns-in-Peek c).After-parse (c.in-Some.is ∙ ap Some c.in-Peek.is) c.peek.ensures refl
 
 pub returns-in-Poke : goal.returns-in-Poke
-returns-in-Poke c = given (goal.at.returns-in-Poke c).After-parse (c.in-Some.is ∙ ap Some c.in-Poke.is) c.poke.ensures.says c.poke.ensures.leaves
+returns-in-Poke c =
+    given (goal.at.returns-in-Poke c).After-parse (c.in-Some.is ∙ ap Some c.in-Poke.is) c.poke.ensures.says c.poke.ensures.leaves

@@ -1,5 +1,5 @@
 -- A word, the bytes of the code, and the line's end. Assumes nothing.
-use Rattle.std.proofs.Common.{ap, [], ◌∷◌, ◌++◌, ◌+◌, ◌≤◌, length}
+use Rattle.std.proofs.Common.{ap, [], ◌∷◌, ◌++◌}
 use Rattle.rules.specs.Text.{text}
 use Rattle.rules.specs.Layout.{view}
 use Rattle.text.specs.Page.{Room}

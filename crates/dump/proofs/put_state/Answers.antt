@@ -1,5 +1,5 @@
 -- The code, the records, the ends, and the last line. Assumes nothing.
-use Rattle.std.proofs.Common.{List, [], ◌∷◌, ◌++◌, ℕ, ◌+◌, ◌≤◌, length}
+use Rattle.std.proofs.Common.{List, [], ◌∷◌, ◌++◌, ℕ}
 use Rattle.rules.specs.State.{State}
 use Rattle.rules.specs.Text.{text}
 use Rattle.rules.specs.Layout.{view}

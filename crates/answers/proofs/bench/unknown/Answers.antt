@@ -35,7 +35,8 @@ put_bytes-requires-3 c =
       c.requires,
       p.place,
       printed_length p,
-      c.put_bytes-2.ensures.place, printed_length c.put_bytes-2.ensures,
+      c.put_bytes-2.ensures.place,
+      printed_length c.put_bytes-2.ensures,
     )
 
 pub returns : goal.returns

@@ -10,7 +10,9 @@ pub put_bytes-requires : goal.put_bytes-requires
 put_bytes-requires c = omega (arith, verdict_length (verdict_in c.args.verdict), c.requires)
 
 pub put_verdict-requires : goal.put_verdict-requires
-put_verdict-requires c = omega (arith, verdict_length (verdict_in c.args.verdict), c.requires, c.put_bytes.ensures.place, printed_length c.put_bytes.ensures)
+put_verdict-requires c =
+    let p = c.put_bytes.ensures in
+    omega (arith, verdict_length (verdict_in c.args.verdict), c.requires, p.place, printed_length p)
 
 pub put_bytes-requires-2 : goal.put_bytes-requires-2
 put_bytes-requires-2 c =

@@ -1,5 +1,5 @@
 -- One item after the other. The invariant: the first k items stand. Assumes nothing.
-use Rattle.std.proofs.Common.{◌≡◌, length, take}
+use Rattle.std.proofs.Common.{take}
 use Rattle.rules.specs.State.{end_at}
 use Rattle.rules.specs.Layout.{view}
 use Rattle.text.specs.Page.{Puts}

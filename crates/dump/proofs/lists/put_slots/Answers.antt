@@ -1,7 +1,7 @@
 -- One slot after the other. The invariant: those of the first c slots that hold an end stand. Assumes nothing.
-use Rattle.std.proofs.Common.{◌≡◌, ◌+◌, ◌≤◌, arith, length, rules}
+use Rattle.std.proofs.Common.{◌≡◌, ◌≤◌, arith, length, rules}
 use Rattle.rules.specs.Limits.{slot_count}
-use Rattle.dump.proofs.HeldSlots.{SlotsSoFar, no_slots, slots_as, slot_empty, slot_room_lem, slot_held}
+use Rattle.dump.proofs.HeldSlots.{no_slots, slots_as, slot_empty, slot_room_lem, slot_held}
 use Rattle.dump.proofs.HeldSlots.{slots_dash_room, slots_done}
 use Rattle.dump.proofs.lists.put_slots.Goals as goal
 use Rattle.dump.proofs.lists.put_slots.Goals.{then-slots-c-ne0, else-slots-c-ne0}

@@ -1,5 +1,4 @@
 -- One slot after the other. The invariant: those of the first c slots that hold an end stand. Assumes nothing.
-use Rattle.std.proofs.Common.{◌≡◌, length}
 use Rattle.dump.proofs.HeldSlots.{SlotsSoFar}
 use Rattle.dump.proofs.lists.put_slots.Given as goal
 

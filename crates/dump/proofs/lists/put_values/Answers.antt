@@ -1,5 +1,5 @@
 -- One value after the other. The invariant: the first k values stand. Assumes nothing.
-use Rattle.std.proofs.Common.{◌≡◌, refl, sym, ap, ◌∙◌, List, ◌++◌, ℕ, ◌<◌, arith, pos, length, get_or, w32, SFits, to_z-of_z, rules}
+use Rattle.std.proofs.Common.{◌≡◌, sym, ap, ◌∙◌, List, ◌++◌, ℕ, ◌<◌, arith, pos, length, get_or, w32, SFits, to_z-of_z, rules}
 use Rattle.rules.specs.Limits.{stack_depth}
 use Rattle.rules.specs.State.{Value}
 use Rattle.rules.specs.Text.{signed_decimal}

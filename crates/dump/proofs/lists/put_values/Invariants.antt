@@ -1,5 +1,5 @@
 -- One value after the other. The invariant: the first k values stand. Assumes nothing.
-use Rattle.std.proofs.Common.{◌≡◌, length, take}
+use Rattle.std.proofs.Common.{take}
 use Rattle.text.specs.Page.{Puts}
 use Rattle.dump.proofs.OneByOne.{so_far}
 use Rattle.dump.proofs.ValueTexts.{value_texts}

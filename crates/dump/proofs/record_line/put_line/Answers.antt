@@ -1,5 +1,5 @@
 -- A number behind its letter, a word, and the registers. Assumes nothing.
-use Rattle.std.proofs.Common.{◌∷◌, ◌++◌, ◌+◌, ◌≤◌, length}
+use Rattle.std.proofs.Common.{◌∷◌, ◌++◌}
 use Rattle.rules.specs.Text.{text, decimal}
 use Rattle.text.specs.Page.{Room}
 use Rattle.text.proofs.Texts.{written_more, room_first, room_rest}

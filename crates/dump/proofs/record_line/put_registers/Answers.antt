@@ -1,5 +1,5 @@
 -- One part after the other. Assumes nothing.
-use Rattle.std.proofs.Common.{[], ◌∷◌, ◌++◌, ◌+◌, ◌≤◌, length}
+use Rattle.std.proofs.Common.{[], ◌∷◌, ◌++◌}
 use Rattle.rules.specs.Text.{decimal}
 use Rattle.text.specs.Page.{Room}
 use Rattle.text.proofs.Texts.{written_more, written_as, room_as, room_first, room_rest}

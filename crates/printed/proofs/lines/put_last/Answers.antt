@@ -1,5 +1,5 @@
 -- The parts of the last line, one behind the other: the room for what is left is known after each. Assumes nothing.
-use Rattle.std.proofs.Common.{[], ◌∷◌, ◌++◌, ◌+◌, ◌≤◌, length}
+use Rattle.std.proofs.Common.{[], ◌∷◌, ◌++◌}
 use Rattle.rules.specs.Text.{decimal}
 use Rattle.rules.specs.Printed.{verdict_text}
 use Rattle.text.specs.Page.{Room}

@@ -1,5 +1,5 @@
 -- The parts of a line, one behind the other: the room for what is left is known after each. Assumes nothing.
-use Rattle.std.proofs.Common.{ap, [], ◌∷◌, ◌++◌, ◌+◌, ◌≤◌, length, ℤ, w32, SFits, to_z-of_z, rules}
+use Rattle.std.proofs.Common.{ap, [], ◌∷◌, ◌++◌, ℤ, w32, SFits, to_z-of_z, rules}
 use Rattle.rules.specs.Text.{decimal}
 use Rattle.rules.specs.Printed.{position_text, kind_text}
 use Rattle.text.specs.Page.{Puts}

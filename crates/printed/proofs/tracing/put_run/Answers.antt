@@ -1,9 +1,5 @@
 -- The lines and the last one. Assumes nothing.
-use Rattle.std.proofs.Common.{ap, ◌∙◌, ◌+◌, ◌≤◌, ◌<◌, arith, length}
-use Rattle.rules.specs.Run.{steps}
-use Rattle.rules.specs.Printed.{trace_budget, lines_text}
-use Rattle.rules.specs.Layout.{view}
-use Rattle.words.proofs.Parts.{length_put}
+use Rattle.std.proofs.Common.{◌+◌, ◌≤◌, ◌<◌, arith, length}
 use Rattle.keeping.proofs.Memories.{memory_length}
 use Rattle.text.proofs.Texts.{written_more, written_as, printed_length}
 use Rattle.printed.specs.Meaning.{last_line}

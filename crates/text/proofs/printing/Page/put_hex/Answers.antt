@@ -1,5 +1,5 @@
 -- `put_hex` puts one byte after the other. The invariant: those so far are put. Assumes nothing.
-use Rattle.std.proofs.Common.{◌∙◌, sym, ap, arith, take_all}
+use Rattle.std.proofs.Common.{ap, arith, take_all}
 use Rattle.rules.specs.Bytes.{flat}
 use Rattle.text.specs.Written.{hex_text}
 use Rattle.text.proofs.Texts.{written_none, written_more, written_as}
