@@ -1,4 +1,3 @@
 pub mod Texts
 pub mod Lengths
 pub mod Cases
-pub mod Whole

@@ -8,39 +8,32 @@ use lib.ListN.{length, get_or, take, drop, length-append, length-map, get_or-map
 use lib.Seq.{take_all}
 use Rattle.rules.specs.Limits.{slot_count}
 use Rattle.rules.specs.Layout.{view_optional}
-use Rattle.words.proofs.Parts.{length_put}
-use Rattle.text.specs.Written.{Written}
-use Rattle.text.proofs.Texts.{written_as}
+use Rattle.text.specs.declared.printing.Page.{Page}
+use Rattle.text.specs.Page.{Room, Puts}
+use Rattle.text.proofs.Texts.{written_none, written_as}
 use Rattle.dump.specs.Shown.{list_text, by_number, slot_text, slot_texts, slots_text}
 use Rattle.dump.specs.Pieces.{comma_behind, dash_for}
-use Rattle.dump.proofs.Parts.{written_none}
 use Rattle.dump.proofs.OneByOne.{so_far, thing_room, thing_more, dash_room, list_done, by_number_more, by_number_parts}
 
 -- the texts of the first c slots
 abbrev pub slots_front : (slots : List ℕ) (c : ℕ) → List (List ℕ)
 slots_front slots c = by_number slot_texts 0 (take c (map view_optional slots))
 
--- the buffer holds the texts of the first c slots, so many of which are shown
-pub record SlotsSoFar (out₀ : List ℕ) (at : ℕ) (slots out : List ℕ) (next shown c : ℕ) : Type 0 where
-  pub written : Written out₀ at (so_far (slots_front slots c)) out next
+-- the page holds the texts of the first c slots, so many of which are shown
+pub record SlotsSoFar (p : Page) (slots : List ℕ) (q : Page) (shown c : ℕ) : Type 0 where
+  pub written : Puts p (so_far (slots_front slots c)) q
   pub count : length (slots_front slots c) ≡ shown
   pub few : shown ≤ c
 
 -- before the first slot
-pub no_slots : (out : List ℕ) (at : ℕ) (slots : List ℕ) → SlotsSoFar out at slots out at 0 0
+pub no_slots : (p : Page) (slots : List ℕ) → SlotsSoFar p slots p 0 0
 unfolding so_far by_number
-no_slots out at slots = record { written = written_none out at; count = refl; few = omega arith }
+no_slots p slots = record { written = written_none p; count = refl; few = omega arith }
 
 -- the same by other names
-pub slots_as : {out₀ : List ℕ} {at : ℕ} {slots out out' : List ℕ} {next next' shown shown' c : ℕ} → out' ≡ out → next' ≡ next
-    → shown' ≡ shown → SlotsSoFar out₀ at slots out next shown c → SlotsSoFar out₀ at slots out' next' shown' c
-slots_as {out₀} {at} {slots} {c = c} p q r s = subst (λ (x : List ℕ × ℕ × ℕ). SlotsSoFar out₀ at slots x.0 x.1 x.2 c)
-    (λ i. (sym p i, sym q i, sym r i)) s
-
--- the buffer is as long as before
-pub slots_length : {out₀ : List ℕ} {at : ℕ} {slots out : List ℕ} {next shown c : ℕ} → SlotsSoFar out₀ at slots out next shown c
-    → length out ≡ length out₀
-slots_length {out₀} {at} {slots} {c = c} s = ap length s.written.memory ∙ length_put out₀ at (so_far (slots_front slots c))
+pub slots_as : {p q r : Page} {slots : List ℕ} {shown shown' c : ℕ} → r ≡ q → shown' ≡ shown → SlotsSoFar p slots q shown c
+    → SlotsSoFar p slots r shown' c
+slots_as {p} {slots = slots} {c = c} e f s = subst (λ (x : Page × ℕ). SlotsSoFar p slots x.0 x.1 c) (λ i. (sym e i, sym f i)) s
 
 -- what a slot's byte stands for
 slot_view : (slots : List ℕ) (c : ℕ) → get_or (map view_optional slots) c none ≡ view_optional (get_or slots c 0)
@@ -52,7 +45,7 @@ unfolding view_optional
 held_view zero h = absurd (h refl)
 held_view (suc n) h = ap some (omega arith)
 
-module _ {out₀ out : List ℕ} {at next shown : ℕ} (slots : List ℕ) (c : ℕ) (until_here : SlotsSoFar out₀ at slots out next shown c)
+module _ {p q : Page} {shown : ℕ} (slots : List ℕ) (c : ℕ) (until_here : SlotsSoFar p slots q shown c)
     (long : length slots ≡ slot_count) (inside : c < slot_count) where
   within : c < length (map view_optional slots)
   within = omega (arith, length-map slots view_optional, long, inside)
@@ -64,7 +57,7 @@ module _ {out₀ out : List ℕ} {at next shown : ℕ} (slots : List ℕ) (c : �
       ∙ by_number_more slot_texts (map view_optional slots) c none within
 
   -- an empty slot is not shown
-  pub slot_empty : get_or slots c 0 ≡ 0 → SlotsSoFar out₀ at slots out next shown (c + 1)
+  pub slot_empty : get_or slots c 0 ≡ 0 → SlotsSoFar p slots q shown (c + 1)
   unfolding view_optional slot_texts
   slot_empty e =
       let same : slots_front slots c ≡ slots_front slots (c + 1) =
@@ -85,8 +78,7 @@ module _ {out₀ out : List ℕ} {at next shown : ℕ} (slots : List ℕ) (c : �
     unfolding slot_texts this
     one_more = front_more (some (get_or slots c 0 - 1)) (held_view (get_or slots c 0) held)
 
-    pub slot_room_lem : at + length (slots_text (map view_optional slots)) ≤ length out₀
-        → next + length (comma_behind shown ++ slot_text c (get_or slots c 0 - 1)) ≤ length out
+    pub slot_room_lem : Room p (slots_text (map view_optional slots)) → Room q (comma_behind shown ++ slot_text c (get_or slots c 0 - 1))
     unfolding slots_text slot_texts this
     slot_room_lem h =
         let all = map view_optional slots in
@@ -94,38 +86,37 @@ module _ {out₀ out : List ℕ} {at next shown : ℕ} (slots : List ℕ) (c : �
         let shows = slot_view slots c ∙ held_view (get_or slots c 0) held in
         let parts = by_number_parts slot_texts all c none within
         ∙ ap (λ (x : Option ℕ). slots_front slots c ++ slot_texts c x ++ behind) shows in
-        subst (λ (n : ℕ). next + length (comma_behind n ++ this) ≤ length out) until_here.count
+        subst (λ (n : ℕ). Room q (comma_behind n ++ this)) until_here.count
         (thing_room (slots_front slots c) until_here.written this behind parts h)
 
-    pub slot_held : {out' : List ℕ} {next' : ℕ} → Written out next (comma_behind shown ++ slot_text c (get_or slots c 0 - 1)) out' next'
-        → SlotsSoFar out₀ at slots out' next' (shown + 1) (c + 1)
+    pub slot_held : {r : Page} → Puts q (comma_behind shown ++ slot_text c (get_or slots c 0 - 1)) r
+        → SlotsSoFar p slots r (shown + 1) (c + 1)
     unfolding this
-    slot_held {out'} {next'} w = record {
+    slot_held {r} w = record {
       written = written_as (ap so_far one_more)
           (thing_more (slots_front slots c) until_here.written this
-          (subst (λ (n : ℕ). Written out next (comma_behind n ++ this) out' next') (sym until_here.count) w));
+          (subst (λ (n : ℕ). Puts q (comma_behind n ++ this) r) (sym until_here.count) w));
       count = omega (arith, ap length (sym one_more), length-append (slots_front slots c) (this ∷ []), until_here.count);
       few = omega (arith, until_here.few);
     }
 
 -- ---- all slots
 
-module _ {out₀ out : List ℕ} {at next shown : ℕ} (slots : List ℕ) (c : ℕ) (until_here : SlotsSoFar out₀ at slots out next shown c)
+module _ {p q : Page} {shown : ℕ} (slots : List ℕ) (c : ℕ) (until_here : SlotsSoFar p slots q shown c)
     (all : length slots ≤ c) where
   is_all : slots_front slots c ≡ by_number slot_texts 0 (map view_optional slots)
   is_all = ap (by_number slot_texts 0) (take_all c (map view_optional slots) (omega (arith, all, length-map slots view_optional)))
 
-  pub slots_dash_room : at + length (slots_text (map view_optional slots)) ≤ length out₀ → next + length (dash_for shown) ≤ length out
+  pub slots_dash_room : Room p (slots_text (map view_optional slots)) → Room q (dash_for shown)
   unfolding slots_text
   slots_dash_room h =
-      subst (λ (n : ℕ). next + length (dash_for n) ≤ length out) until_here.count
+      subst (λ (n : ℕ). Room q (dash_for n)) until_here.count
       (dash_room (slots_front slots c) until_here.written
-      (subst (λ (l : List (List ℕ)). at + length (list_text l) ≤ length out₀) (sym is_all) h))
+      (subst (λ (l : List (List ℕ)). Room p (list_text l)) (sym is_all) h))
 
-  pub slots_done : {out' : List ℕ} {next' : ℕ} → Written out next (dash_for shown) out' next'
-      → Written out₀ at (slots_text (map view_optional slots)) out' next'
+  pub slots_done : {r : Page} → Puts q (dash_for shown) r → Puts p (slots_text (map view_optional slots)) r
   unfolding slots_text
-  slots_done {out'} {next'} w =
+  slots_done {r} w =
       written_as (ap list_text is_all)
       (list_done (slots_front slots c) until_here.written
-      (subst (λ (n : ℕ). Written out next (dash_for n) out' next') (sym until_here.count) w))
+      (subst (λ (n : ℕ). Puts q (dash_for n) r) (sym until_here.count) w))

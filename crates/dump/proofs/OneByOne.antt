@@ -9,9 +9,9 @@ use native.Mathlib.Omega.{arith}
 use lib.ListN.{length, get_or, take, drop, length-append, take-append-drop}
 use lib.Seq.{take_all, take-suc, split_at, append_snoc, length-take-le}
 use Rattle.rules.specs.Text.{text}
-use Rattle.words.proofs.Parts.{length_put}
-use Rattle.text.specs.Written.{Written}
-use Rattle.text.proofs.Texts.{written_more, written_as, room_as, room_first, room_rest}
+use Rattle.text.specs.declared.printing.Page.{Page}
+use Rattle.text.specs.Page.{Room, Puts}
+use Rattle.text.proofs.Texts.{written_none, written_more, written_as, room_as, room_first, room_rest}
 use Rattle.dump.specs.Shown.{behind_commas, list_text, by_number}
 use Rattle.dump.specs.Pieces.{comma_behind, dash_for}
 
@@ -58,10 +58,10 @@ front_shorter (x ∷ xs) ys =
 
 -- ---- things with commas between them
 
-module _ {out₀ out : List ℕ} {at next : ℕ} (things : List (List ℕ)) (written : Written out₀ at (so_far things) out next) where
+module _ {p q : Page} (things : List (List ℕ)) (written : Puts p (so_far things) q) where
   -- room for the thing that comes
   pub thing_room : (t : List ℕ) (rest : List (List ℕ)) {all : List (List ℕ)} → all ≡ things ++ t ∷ [] ++ rest
-      → at + length (list_text all) ≤ length out₀ → next + length (comma_behind (length things) ++ t) ≤ length out
+      → Room p (list_text all) → Room q (comma_behind (length things) ++ t)
   thing_room t rest e h =
       let front = front_shorter (things ++ t ∷ []) rest in
       room_rest (comma_behind (length things) ++ t)
@@ -69,52 +69,48 @@ module _ {out₀ out : List ℕ} {at next : ℕ} (things : List (List ℕ)) (wri
       written
 
   -- it is put behind the others
-  pub thing_more : (t : List ℕ) {out' : List ℕ} {next' : ℕ} → Written out next (comma_behind (length things) ++ t) out' next'
-      → Written out₀ at (so_far (things ++ t ∷ [])) out' next'
+  pub thing_more : (t : List ℕ) {r : Page} → Puts q (comma_behind (length things) ++ t) r → Puts p (so_far (things ++ t ∷ [])) r
   thing_more t w = written_as (so_far_more things t) (written_more written w)
 
   -- what ends the list
-  pub dash_room : at + length (list_text things) ≤ length out₀ → next + length (dash_for (length things)) ≤ length out
-  dash_room h = room_rest (dash_for (length things)) (room_as at _ _ out₀ (list_closed things) h) written
+  pub dash_room : Room p (list_text things) → Room q (dash_for (length things))
+  dash_room h = room_rest (dash_for (length things)) (room_as p (list_closed things) h) written
 
-  pub list_done : {out' : List ℕ} {next' : ℕ} → Written out next (dash_for (length things)) out' next'
-      → Written out₀ at (list_text things) out' next'
+  pub list_done : {r : Page} → Puts q (dash_for (length things)) r → Puts p (list_text things) r
   list_done w = written_as (list_closed things) (written_more written w)
 
 -- ---- the things by their index
 
-module _ {out₀ out : List ℕ} {at next : ℕ} (all : List (List ℕ)) (k : ℕ) (written : Written out₀ at (so_far (take k all)) out next) where
-  pub index_room : (d : List ℕ) → k < length all → at + length (list_text all) ≤ length out₀
-      → next + length (comma_behind k ++ get_or all k d) ≤ length out
+module _ {p q : Page} (all : List (List ℕ)) (k : ℕ) (written : Puts p (so_far (take k all)) q) where
+  pub index_room : (d : List ℕ) → k < length all → Room p (list_text all) → Room q (comma_behind k ++ get_or all k d)
   index_room d h room =
       let count : length (take k all) ≡ k = length-take-le k all (omega arith) in
       let parts = split_at all k d h ∙ sym (append_snoc (take k all) (get_or all k d) (drop (suc k) all)) in
-      subst (λ (n : ℕ). next + length (comma_behind n ++ get_or all k d) ≤ length out) count
+      subst (λ (n : ℕ). Room q (comma_behind n ++ get_or all k d)) count
       (thing_room (take k all) written (get_or all k d) (drop (suc k) all) parts room)
 
-  pub index_more : (d : List ℕ) → k < length all → {out' : List ℕ} {next' : ℕ}
-      → Written out next (comma_behind k ++ get_or all k d) out' next' → Written out₀ at (so_far (take (k + 1) all)) out' next'
-  index_more d h {out'} {next'} w =
+  pub index_more : (d : List ℕ) → k < length all → {r : Page} → Puts q (comma_behind k ++ get_or all k d) r
+      → Puts p (so_far (take (k + 1) all)) r
+  index_more d h {r} w =
       let count : k ≡ length (take k all) = sym (length-take-le k all (omega arith)) in
       let more : take k all ++ get_or all k d ∷ [] ≡ take (k + 1) all = rw add-one (sym (take-suc all k d h)) in
       written_as (ap so_far more)
       (thing_more (take k all) written (get_or all k d)
-      (subst (λ (n : ℕ). Written out next (comma_behind n ++ get_or all k d) out' next') count w))
+      (subst (λ (n : ℕ). Puts q (comma_behind n ++ get_or all k d) r) count w))
 
   -- all of them stand
   module _ {n : ℕ} (enough : length all ≡ n) (at_end : k ≡ n) where
     is_all : take k all ≡ all
     is_all = take_all k all (omega arith)
 
-    all_written : Written out₀ at (so_far all) out next
+    all_written : Puts p (so_far all) q
     all_written = written_as (ap so_far is_all) written
 
-    pub index_dash_room : at + length (list_text all) ≤ length out₀ → next + length (dash_for n) ≤ length out
-    index_dash_room h = subst (λ (m : ℕ). next + length (dash_for m) ≤ length out) enough (dash_room all all_written h)
+    pub index_dash_room : Room p (list_text all) → Room q (dash_for n)
+    index_dash_room h = subst (λ (m : ℕ). Room q (dash_for m)) enough (dash_room all all_written h)
 
-    pub index_done : {out' : List ℕ} {next' : ℕ} → Written out next (dash_for n) out' next' → Written out₀ at (list_text all) out' next'
-    index_done {out'} {next'} w =
-        list_done all all_written (subst (λ (m : ℕ). Written out next (dash_for m) out' next') (sym enough) w)
+    pub index_done : {r : Page} → Puts q (dash_for n) r → Puts p (list_text all) r
+    index_done {r} w = list_done all all_written (subst (λ (m : ℕ). Puts q (dash_for m) r) (sym enough) w)
 
 -- ---- what each gives by its number
 
@@ -151,42 +147,37 @@ by_number_parts f xs k d h =
 -- ---- lines by number
 
 -- the first k of so many lines stand
-pub record LinesTo {A : Type 0} (line : ℕ → A → List ℕ) (count : ℕ) (xs : List A) (out₀ : List ℕ) (at : ℕ) (out : List ℕ) (next k : ℕ)
-    : Type 0 where
+pub record LinesTo {A : Type 0} (line : ℕ → A → List ℕ) (count : ℕ) (xs : List A) (p q : Page) (k : ℕ) : Type 0 where
   pub so_many : length xs ≡ count
   pub below : k ≤ count
-  pub as_long : length out ≡ length out₀
-  pub lines : Written out₀ at (by_number line 0 (take k xs)) out next
+  pub lines : Puts p (by_number line 0 (take k xs)) q
 
-module _ {A : Type 0} {line : ℕ → A → List ℕ} {count : ℕ} {xs : List A} {out₀ : List ℕ} {at : ℕ} where
+module _ {A : Type 0} {line : ℕ → A → List ℕ} {count : ℕ} {xs : List A} {p : Page} where
   -- none yet
-  pub no_line : length xs ≡ count → LinesTo line count xs out₀ at out₀ at 0
+  pub no_line : length xs ≡ count → LinesTo line count xs p p 0
   unfolding by_number
-  no_line e = record { so_many = e; below = omega arith; as_long = refl; lines = record { memory = refl; place = sym (add-zero at) } }
+  no_line e = record { so_many = e; below = omega arith; lines = written_none p }
 
-  module _ {out : List ℕ} {next k : ℕ} (stand : LinesTo line count xs out₀ at out next k) where
+  module _ {q : Page} {k : ℕ} (stand : LinesTo line count xs p q k) where
     -- room for the line that comes
-    pub line_room : (d : A) → k < count → at + length (by_number line 0 xs) ≤ length out₀
-        → next + length (line k (get_or xs k d)) ≤ length out
+    pub line_room : (d : A) → k < count → Room p (by_number line 0 xs) → Room q (line k (get_or xs k d))
     line_room d h room =
         let inside : k < length xs = omega (arith, stand.so_many) in
         let front = by_number line 0 (take k xs) ++ line k (get_or xs k d) in
         let behind = by_number line (0 + length (take (k + 1) xs)) (drop (k + 1) xs) in
-        let whole = room_as at (front ++ behind) (by_number line 0 xs) out₀ (sym (by_number_parts line xs k d inside)) room in
-        room_rest (line k (get_or xs k d)) (room_first at front behind out₀ whole) stand.lines
+        let whole = room_as p (sym (by_number_parts line xs k d inside)) room in
+        room_rest (line k (get_or xs k d)) (room_first p front behind whole) stand.lines
 
     -- it is put behind the others
-    pub line_more : (d : A) → k < count → {out' : List ℕ} {next' : ℕ} → Written out next (line k (get_or xs k d)) out' next'
-        → LinesTo line count xs out₀ at out' next' (k + 1)
+    pub line_more : (d : A) → k < count → {r : Page} → Puts q (line k (get_or xs k d)) r → LinesTo line count xs p r (k + 1)
     line_more d h w =
         let inside : k < length xs = omega (arith, stand.so_many) in
         record {
           so_many = stand.so_many;
           below = omega arith;
-          as_long = ap length w.memory ∙ length_put out next (line k (get_or xs k d)) ∙ stand.as_long;
           lines = written_as (by_number_more line xs k d inside) (written_more stand.lines w);
         }
 
     -- all of them
-    pub all_lines : count ≤ k → Written out₀ at (by_number line 0 xs) out next
+    pub all_lines : count ≤ k → Puts p (by_number line 0 xs) q
     all_lines h = written_as (ap (by_number line 0) (take_all k xs (omega (arith, stand.so_many)))) stand.lines

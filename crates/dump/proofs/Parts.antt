@@ -2,18 +2,13 @@
 use mathlib.Core.Path.{◌≡◌, refl, sym, ap, ◌∙◌}
 use mathlib.Core.List.{List, [], ◌∷◌, ◌++◌, append_assoc}
 use Prim.Native.Nat.{ℕ, zero, suc}
-use native.Mathlib.Nat.{add-zero}
 use native.Mathlib.Omega.{arith}
 use lib.ListN.{length}
 use Rattle.rules.specs.State.{Registers as Process}
 use Rattle.rules.specs.Text.{text, decimal}
-use Rattle.text.specs.Written.{Written, hex_text}
+use Rattle.text.specs.Written.{hex_text}
 use Rattle.dump.specs.Shown.{values_text, slot_text, slots_text, registers_text, code_text}
 use Rattle.dump.specs.Pieces.{comma_behind, dash_for}
-
--- nothing is printed
-pub written_none : (m : List ℕ) (at : ℕ) → Written m at [] m at
-written_none m at = record { memory = refl; place = sym (add-zero at) }
 
 -- ---- commas and dashes
 

@@ -1,6 +1,5 @@
 // A state in words, as the console shows it: a line for the code, one for each record in use, one for each end in use, and `end`. What is
-// printed is `state_text` of the state that a sound memory shows. A function asks for just the room that its text takes, and answers the
-// place behind it.
+// printed is `state_text` of the state that a sound memory shows. A function asks for just the room that its text takes.
 
 #![tactic(auto)]
 
@@ -12,70 +11,65 @@ ghost use Rattle.std.specs.Prelude.{◌≡◌, ◌++◌, ◌+◌, ◌≤◌, len
 ghost use Rattle.rules.specs.Text.{text as text_of};
 ghost use Rattle.rules.specs.Layout.{state_size, view};
 ghost use Rattle.keeping.specs.Demand3.{SoundMemory};
-ghost use Rattle.text.specs.Written.{Written};
+ghost use Rattle.text.specs.Page.{Room, Puts};
 ghost use Rattle.dump.specs.Shown.{code_text, records_text, ends_text, state_text};
 
 use rules::{END_COUNT, RECORD_COUNT};
-use text::{put_bytes, put_hex, put_letter};
+use text::Page;
 
 // The bytes of a code in hex, `-` for none.
-fn put_bytes_of(out: &mut [u8], at: usize, code: &[u8]) -> usize
-    requires { at + length (code_text code.now) ≤ length out.old }
-    ensures { Written out.old at (code_text code.now) out.new result }
+fn put_bytes_of(page: &mut Page, code: &[u8])
+    requires { Room page.old (code_text code.now) }
+    ensures { Puts page.old (code_text code.now) page.new }
 {
     if code.len() == 0 {
-        return put_letter(out, at, b'-');
+        return page.put_letter(b'-');
     }
-    put_hex(out, at, code)
+    page.put_hex(code);
 }
 
 // The line of the code.
-fn put_code(out: &mut [u8], at: usize, m: &[u8]) -> usize
+fn put_code(page: &mut Page, m: &[u8])
     requires sound { (length m.now ≡ state_size) × SoundMemory m.now }
-    requires room { at + length (text_of "code " ++ code_text (view m.now).code ++ text_of "\n") ≤ length out.old }
-    ensures { Written out.old at (text_of "code " ++ code_text (view m.now).code ++ text_of "\n")
-        out.new result }
+    requires room { Room page.old (text_of "code " ++ code_text (view m.now).code ++ text_of "\n") }
+    ensures { Puts page.old (text_of "code " ++ code_text (view m.now).code ++ text_of "\n") page.new }
 {
-    let named = put_bytes(out, at, b"code ");
-    let shown = put_bytes_of(out, named, stepping::code(m));
-    put_letter(out, shown, b'\n')
+    page.put_bytes(b"code ");
+    put_bytes_of(page, stepping::code(m));
+    page.put_letter(b'\n');
 }
 
 // The lines of the records.
-fn put_records(out: &mut [u8], at: usize, m: &[u8]) -> usize
+fn put_records(page: &mut Page, m: &[u8])
     requires sound { (length m.now ≡ state_size) × SoundMemory m.now }
-    requires room { at + length (records_text (view m.now).records) ≤ length out.old }
-    ensures { Written out.old at (records_text (view m.now).records) out.new result }
+    requires room { Room page.old (records_text (view m.now).records) }
+    ensures { Puts page.old (records_text (view m.now).records) page.new }
 {
-    let mut next = at;
     for r in 0..RECORD_COUNT {
-        next = record_line::put_record(out, next, m, r as u8);
+        record_line::put_record(page, m, r as u8);
     }
-    next
 }
 
 // The lines of the ends. One function for these and the records would take what prints a line as a closure, and its contract would have to
 // ask at every place and number what `put_end` asks: no shorter than two loops of three lines.
-fn put_ends(out: &mut [u8], at: usize, m: &[u8]) -> usize
+fn put_ends(page: &mut Page, m: &[u8])
     requires sound { (length m.now ≡ state_size) × SoundMemory m.now }
-    requires room { at + length (ends_text (view m.now).ends) ≤ length out.old }
-    ensures { Written out.old at (ends_text (view m.now).ends) out.new result }
+    requires room { Room page.old (ends_text (view m.now).ends) }
+    ensures { Puts page.old (ends_text (view m.now).ends) page.new }
 {
-    let mut next = at;
     for e in 0..END_COUNT {
-        next = end_line::put_end(out, next, m, e as u8);
+        end_line::put_end(page, m, e as u8);
     }
-    next
 }
 
 // The state in words.
-pub fn put_state(out: &mut [u8], at: usize, m: &[u8]) -> usize
+pub fn put_state(page: &mut Page, m: &[u8])
     requires sound_memory { SoundMemory m.now }
-    requires room { at + length (state_text (view m.now)) ≤ length out.old }
-    ensures { Written out.old at (state_text (view m.now)) out.new result }
+    requires room { Room page.old (state_text (view m.now)) }
+    ensures { Puts page.old (state_text (view m.now)) page.new }
 {
-    let behind_code = put_code(out, at, m);
-    let behind_records = put_records(out, behind_code, m);
-    let behind_ends = put_ends(out, behind_records, m);
-    put_bytes(out, behind_ends, b"end\n")
+    put_code(page, m);
+    put_records(page, m);
+    put_ends(page, m);
+    page.put_bytes(b"end\n");
 }

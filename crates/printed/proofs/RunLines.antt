@@ -1,4 +1,4 @@
--- The lines of a run, one step after the other: those of the steps made so far stand in the buffer, and the next one is put behind them.
+-- The lines of a run, one step after the other: those of the steps made so far stand on the page, and the next one is put behind them.
 -- Assumes nothing.
 use mathlib.Core.Path.{◌≡◌, refl, sym, ap, ◌∙◌}
 use mathlib.Core.Option.{Option, none, some}
@@ -19,15 +19,16 @@ use Rattle.rules.specs.Printed.{printed_at, line_text, lines_text, trace_budget}
 use Rattle.rules.specs.Layout.{view}
 use Rattle.keeping.specs.Demand3.{SoundMemory}
 use Rattle.keeping.proofs.StepLaws.{steps_one}
-use Rattle.text.specs.Written.{Written}
-use Rattle.text.proofs.Texts.{written_more, written_as}
+use Rattle.text.specs.declared.printing.Page.{Page}
+use Rattle.text.specs.Page.{Room, Puts}
+use Rattle.text.proofs.Texts.{written_none, written_more, written_as, printed_length}
 use Rattle.runner.specs.Runs.{stepped_by}
 use Rattle.runner.proofs.Somewhere.{no_step}
 use Rattle.runner.proofs.Making.{MadeSoFar, none_yet, more, none_more, stopped, ended, position_in_range, one_more}
 use Rattle.printed.specs.declared.kinds.Printed.{Printed}
 use Rattle.printed.specs.Meaning.{printed_of}
 use Rattle.printed.specs.Forwarded.{Forwarded, step_printed, forward_printed, stepped_in}
-use Rattle.printed.specs.Traced.{line_limit, trace_limit, Traced}
+use Rattle.printed.specs.Traced.{line_limit, RoomToTrace, Traced}
 use Rattle.printed.proofs.Lengths.{line_short}
 
 -- ---- lines
@@ -47,24 +48,20 @@ lines_append n (t ∷ ss) s =
 
 -- ---- the steps made so far
 
--- so many steps have been made from st and position 0, and their lines stand in the buffer up to `end`
-pub record LinesSoFar (st : State) (out₀ : List ℕ) (end made next : ℕ) (m out : List ℕ) : Type 0 where
+-- so many steps have been made from st and position 0, and their lines stand on the page
+pub record LinesSoFar (st : State) (p : Page) (made next : ℕ) (m : List ℕ) (q : Page) : Type 0 where
   pub so_far : MadeSoFar st 0 made next m
-  pub written : Written out₀ 0 (lines_text 1 (steps made st 0)) out end
-  pub within : end ≤ line_limit * made
+  pub written : Puts p (lines_text 1 (steps made st 0)) q
+  pub within : q.at ≤ p.at + line_limit * made
 
-pub no_lines : (m out : List ℕ) → SoundMemory m → LinesSoFar (view m) out 0 0 0 m out
+pub no_lines : (m : List ℕ) (p : Page) → SoundMemory m → LinesSoFar (view m) p 0 0 m p
 unfolding steps lines_text
-no_lines m out s = record {
-  so_far = none_yet m s 0 (omega arith);
-  written = record { memory = refl; place = refl };
-  within = omega arith;
-}
+no_lines m p s = record { so_far = none_yet m s 0 (omega arith); written = written_none p; within = omega arith }
 
-module _ (st : State) (out₀ : List ℕ) (end made next : ℕ) (m out : List ℕ) (lines : LinesSoFar st out₀ end made next m out) where
+module _ (st : State) (p : Page) (made next : ℕ) (m : List ℕ) (q : Page) (lines : LinesSoFar st p made next m q) where
   -- nothing can step: these are all lines
   pub lines_end : {answer : Maybe Printed} {left : List ℕ} → made ≤ trace_budget → Forwarded m (next_step (view m) next) answer left
-      → answer ≡ None → Traced st (steps trace_budget st 0) out₀ end made next left out
+      → answer ≡ None → Traced st (steps trace_budget st 0) p made next left q
   lines_end {answer} {left} h f is =
       let nothing = no_step (next_step (view m) next) (ap stepped_in (sym is) ∙ f.made.answer_is) in
       let same : steps made st 0 ≡ steps trace_budget st 0 = sym (none_more st 0 made next m lines.so_far trace_budget h nothing) in
@@ -76,7 +73,7 @@ module _ (st : State) (out₀ : List ℕ) (end made next : ℕ) (m out : List �
       }
 
   -- the budget is used
-  pub budget_end : made ≤ trace_budget → trace_budget ≤ made → Traced st (steps trace_budget st 0) out₀ end made next m out
+  pub budget_end : made ≤ trace_budget → trace_budget ≤ made → Traced st (steps trace_budget st 0) p made next m q
   budget_end h k =
       let same : made ≡ trace_budget = omega (arith, h, k) in
       record {
@@ -94,24 +91,23 @@ module _ (st : State) (out₀ : List ℕ) (end made next : ℕ) (m out : List �
         position_in_range st 0 made next m lines.so_far x.position f.made.answer_is f.made.memory_is (ap stepped_in is)
 
     -- there is room for its line
-    pub line_room : made < trace_budget → SFits w32 x.number → trace_limit ≤ length out₀ → length out ≡ length out₀
-        → end + length (line_text (made + 1) (some (printed_of x))) ≤ length out
-    line_room h fits limit same =
+    pub line_room : made < trace_budget → SFits w32 x.number → RoomToTrace p → Room q (line_text (made + 1) (some (printed_of x)))
+    line_room h fits limit =
         let short = line_short (made + 1) (printed_of x) (omega (arith, h)) position_below fits in
-        omega (arith, h, short, lines.within, limit, same)
+        omega (arith, h, short, lines.within, limit, printed_length lines.written)
 
     -- the line is put behind the others
-    pub one_line : made < trace_budget → SFits w32 x.number → {next' end' : ℕ} {out' : List ℕ} → next' ≡ next_position x.position
-        → Written out end (line_text (made + 1) (some (printed_of x))) out' end' → LinesSoFar st out₀ end' (made + 1) next' left out'
-    one_line h fits {next'} {end'} {out'} e w = go (next_step (view m) next) refl
+    pub one_line : made < trace_budget → SFits w32 x.number → {next' : ℕ} {r : Page} → next' ≡ next_position x.position
+        → Puts q (line_text (made + 1) (some (printed_of x))) r → LinesSoFar st p (made + 1) next' left r
+    one_line h fits {next'} {r} e w = go (next_step (view m) next) refl
       where
-        go : (y : Option Step) → next_step (view m) next ≡ y → LinesSoFar st out₀ end' (made + 1) next' left out'
-        go none q = absurd (none-some _ (sym (ap stepped_in (sym is) ∙ f.made.answer_is ∙ ap stepped_by q)))
-        go (some s) q =
+        go : (y : Option Step) → next_step (view m) next ≡ y → LinesSoFar st p (made + 1) next' left r
+        go none found = absurd (none-some _ (sym (ap stepped_in (sym is) ∙ f.made.answer_is ∙ ap stepped_by found)))
+        go (some s) found =
             let longer : steps (made + 1) st 0 ≡ steps made st 0 ++ s ∷ [] =
-            more st 0 made next m lines.so_far 1 ∙ ap (λ (ts : List Step). steps made st 0 ++ ts) (steps_one (view m) next s q) in
+            more st 0 made next m lines.so_far 1 ∙ ap (λ (ts : List Step). steps made st 0 ++ ts) (steps_one (view m) next s found) in
             let told : some (printed_of x) ≡ printed_at s.before s.position =
-            ap forward_printed (sym is) ∙ f.prints ∙ ap step_printed q in
+            ap forward_printed (sym is) ∙ f.prints ∙ ap step_printed found in
             let count : 1 + length (steps made st 0) ≡ made + 1 = omega (arith, lines.so_far.all_made) in
             let line : lines_text 1 (steps made st 0) ++ line_text (made + 1) (some (printed_of x)) ≡ lines_text 1 (steps (made + 1) st 0) =
             sym (ap (lines_text 1) longer ∙ lines_append 1 (steps made st 0) s

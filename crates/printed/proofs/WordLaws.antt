@@ -3,7 +3,7 @@
 use mathlib.Core.Path.{◌≡◌, refl, sym, ap, ◌∙◌}
 use mathlib.Core.Bool.{Bool, true, false}
 use mathlib.Core.List.{List, [], ◌++◌}
-use Prim.Native.Nat.{ℕ, ◌+◌, ◌-◌, ◌%◌, ◌≤◌, ◌<◌}
+use Prim.Native.Nat.{ℕ, ◌+◌, ◌-◌, ◌%◌, ◌<◌}
 use native.Mathlib.Omega.{arith}
 use lib.ListN.{length, get_or, length-append}
 use lib.Dec.{ltb}
@@ -13,7 +13,9 @@ use Rattle.rules.specs.Text.{text, signed_decimal}
 use Rattle.rules.specs.Printed.{name_text, kind_text, verdict_text}
 use Rattle.rules.proofs.TestLaws.{true_is_not_false}
 use Rattle.words.proofs.Tables.{get_d_table}
+use Rattle.text.specs.declared.printing.Page.{Page}
 use Rattle.text.specs.Written.{pick}
+use Rattle.text.specs.Page.{Room}
 use Rattle.runner.specs.declared.verdict.Verdict.{Verdict}
 use Rattle.runner.specs.declared.verdict.Verdict.TheVariants.{Spent, Finished, Stuck}
 use Rattle.printed.specs.declared.kinds.Kind.{Kind}
@@ -63,10 +65,10 @@ plain_text Value v h = true_is_not_false refl h
 plain_text Handle v h = true_is_not_false refl h
 
 -- room for the word of a kind
-pub word_room : (k : Kind) (v : ℤ) (at room : ℕ) → at + length (kind_text (kind_in k) v) ≤ room → at + length (word_text (word_of k)) ≤ room
-word_room k v at room h = go (is_numbered k) refl
+pub word_room : (k : Kind) (v : ℤ) (p : Page) → Room p (kind_text (kind_in k) v) → Room p (word_text (word_of k))
+word_room k v p h = go (is_numbered k) refl
   where
-    go : (b : Bool) → is_numbered k ≡ b → at + length (word_text (word_of k)) ≤ room
+    go : (b : Bool) → is_numbered k ≡ b → Room p (word_text (word_of k))
     go true e = omega (arith, ap length (numbered_text k v e), length-append (word_text (word_of k)) (signed_decimal v))
     go false e = omega (arith, ap length (plain_text k v e))
 

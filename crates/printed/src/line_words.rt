@@ -1,13 +1,13 @@
 // The words of a line as one table: the names of the instructions in the order of document 01's table, what is delivered at an end, and
 // the verdicts.
 ghost use Rattle.std.specs.Prelude.{◌≡◌, ◌+◌, ◌≤◌, ◌<◌, length};
-ghost use Rattle.text.specs.Written.{Written};
+ghost use Rattle.text.specs.Page.{Room, Puts};
 ghost use Rattle.printed.specs.Meaning.{row_of};
 ghost use Rattle.printed.specs.Words.{letters, line_words, word_count, word_text, word_of, is_numbered, word_of_verdict};
 
 use crate::kinds::Kind;
 use runner::Verdict;
-use text::put_bytes;
+use text::Page;
 
 static WORDS: [&[u8]; 24] = [
     b"cst",
@@ -51,12 +51,12 @@ fn word(row: u8) -> &'static [u8]
     words()[row as usize]
 }
 
-// The word in a row goes into a buffer.
-pub fn put_word(out: &mut [u8], at: usize, row: u8) -> usize
-    requires { (row < word_count) × (at + length (word_text row) ≤ length out.old) }
-    ensures { Written out.old at (word_text row) out.new result }
+// The word in a row goes onto a page.
+pub fn put_word(page: &mut Page, row: u8)
+    requires { (row < word_count) × Room page.old (word_text row) }
+    ensures { Puts page.old (word_text row) page.new }
 {
-    put_bytes(out, at, word(row))
+    page.put_bytes(word(row));
 }
 
 // The row of an instruction's name, by its first byte. A byte that begins no instruction is never shown, and has one of them too.

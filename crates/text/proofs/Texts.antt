@@ -1,9 +1,9 @@
 -- Laws of printing: one text behind another, a text by another name, room for a text, and a signed number. Assumes nothing.
-use mathlib.Core.Path.{◌≡◌, sym, ap, ◌∙◌}
+use mathlib.Core.Path.{◌≡◌, refl, sym, ap, ◌∙◌, subst}
 use mathlib.Core.List.{List, [], ◌∷◌, ◌++◌}
 use mathlib.Core.Bool.{true, false}
-use Prim.Native.Nat.{ℕ, zero, suc, ◌+◌, ◌-◌, ◌≤◌}
-use native.Mathlib.Nat.{le_of_suc-le-suc}
+use Prim.Native.Nat.{ℕ, zero, suc, ◌-◌, ◌≤◌}
+use native.Mathlib.Nat.{add-zero, le_of_suc-le-suc}
 use native.Mathlib.Omega.{arith}
 use borrow.Author.Tests.{ltb-true}
 use lib.ListN.{length, take, drop, length-append, length-drop}
@@ -11,36 +11,40 @@ use lib.Seq.{take_all, drop-nil}
 use lib.IntN.{ℤ, pos, negsuc, nat_abs}
 use lib.Signed.{lt_z}
 use Rattle.rules.specs.Text.{text, decimal, signed_decimal}
-use Rattle.words.specs.Parts.{put_at}
 use Rattle.words.proofs.Parts.{length_put, put_append}
-use Rattle.text.specs.Written.{Written}
+use Rattle.text.specs.declared.printing.Page.{Page}
+use Rattle.text.specs.Page.{Room, Puts}
+
+-- nothing is printed
+pub written_none : (p : Page) → Puts p [] p
+written_none p = record { same_buffer = refl; memory = refl; place = sym (add-zero p.at) }
 
 -- one text behind another
-pub written_more : {m m₁ m₂ x y : List ℕ} {at p q : ℕ} → Written m at x m₁ p → Written m₁ p y m₂ q → Written m at (x ++ y) m₂ q
-written_more {m} {m₁} {m₂} {x} {y} {at} {p} {q} a b = record {
-  memory = b.memory ∙ rw (a.memory, a.place) (sym (put_append m at x y));
+pub written_more : {p q r : Page} {x y : List ℕ} → Puts p x q → Puts q y r → Puts p (x ++ y) r
+written_more {p} {q} {r} {x} {y} a b = record {
+  same_buffer = b.same_buffer ∙ a.same_buffer;
+  memory = b.memory ∙ rw (a.memory, a.place) (sym (put_append p.out.now p.at x y));
   place = let e = a.place in let f = b.place in omega (arith, length-append x y);
 }
 
+-- the buffer is as long as before
+pub printed_length : {p q : Page} {x : List ℕ} → Puts p x q → length q.out.now ≡ length p.out.now
+printed_length {p} {q} {x} w = ap length w.memory ∙ length_put p.out.now p.at x
+
 -- a text by another name
-pub written_as : {m m' x y : List ℕ} {at p : ℕ} → x ≡ y → Written m at x m' p → Written m at y m' p
-written_as {m} {m'} {x} {y} {at} {p} e w = record {
-  memory = w.memory ∙ ap (λ (t : List ℕ). put_at m at t) e;
-  place = w.place ∙ ap (λ (t : List ℕ). at + length t) e;
-}
+pub written_as : {p q : Page} {x y : List ℕ} → x ≡ y → Puts p x q → Puts p y q
+written_as {p} {q} e w = subst (λ (t : List ℕ). Puts p t q) e w
 
 -- room for a text by another name
-pub room_as : (at : ℕ) (x y m : List ℕ) → x ≡ y → at + length y ≤ length m → at + length x ≤ length m
-room_as at x y m e h = let l = ap length e in omega arith
+pub room_as : (p : Page) {x y : List ℕ} → x ≡ y → Room p y → Room p x
+room_as p e h = let l = ap length e in omega arith
 
--- room for a text, and for what stands behind it once it is written
-pub room_first : (at : ℕ) (x y m : List ℕ) → at + length (x ++ y) ≤ length m → at + length x ≤ length m
-room_first at x y m h = omega (arith, length-append x y)
+-- room for a text, and for what stands behind it once it is printed
+pub room_first : (p : Page) (x y : List ℕ) → Room p (x ++ y) → Room p x
+room_first p x y h = omega (arith, length-append x y)
 
-pub room_rest : {m m' x : List ℕ} {at p : ℕ} (y : List ℕ) → at + length (x ++ y) ≤ length m → Written m at x m' p
-    → p + length y ≤ length m'
-room_rest {m} {m'} {x} {at} {p} y h w =
-    let l = ap length w.memory ∙ length_put m at x in omega (arith, length-append x y, w.place, l)
+pub room_rest : {p q : Page} {x : List ℕ} (y : List ℕ) → Room p (x ++ y) → Puts p x q → Room q y
+room_rest {p} {q} {x} y h w = omega (arith, length-append x y, w.place, printed_length w)
 
 -- nothing stands behind the end
 pub drop_all : (l : List ℕ) (n : ℕ) → length l ≤ n → drop n l ≡ []

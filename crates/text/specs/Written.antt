@@ -1,4 +1,5 @@
--- What printing into a lent buffer leaves, and bytes in hex. Numbers as text are `decimal` and `signed_decimal` of `rules`. Assumes nothing.
+-- What printing into a lent buffer leaves, and bytes in hex. Numbers as text are `decimal` and `signed_decimal` of `rules`. Assumes
+-- nothing.
 use Rattle.std.specs.Prelude.{◌≡◌, ℕ, ◌+◌, ◌/◌, ◌%◌, List, [], ◌∷◌, Bool, true, false, length, ltb}
 use Rattle.rules.specs.Bytes.{flat}
 use Rattle.words.specs.Parts.{put_at}

@@ -1,10 +1,11 @@
-// Bytes and numbers as text, for the programs: printing into a lent buffer, and reading what a line says. A function asks for the room that
-// it needs; what is printed is defined in `rules` (specs/Text.antt) and specs/Written.antt, what a text says in specs/Digits.antt.
+// Bytes and numbers as text, for the programs: printing onto a page, which is a lent buffer with a place in it, and reading what a line
+// says. A function asks for the room that it needs (specs/Page.antt); what is printed is defined in `rules` (specs/Text.antt) and
+// specs/Written.antt, what a text says in specs/Digits.antt.
 
 #![tactic(auto)]
 
 mod printing;
 mod reading;
 
-pub use printing::{put_bytes, put_decimal, put_hex, put_letter, put_lettered, put_signed};
+pub use printing::Page;
 pub use reading::{is_hex, length_before, read_hex, read_number};

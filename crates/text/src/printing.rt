@@ -1,29 +1,12 @@
-// Printing into a lent buffer at a place. Each function answers the place behind what it printed, and leaves all else as it was.
-ghost use Rattle.std.specs.Prelude.{◌≡◌, [], ◌∷◌, ◌+◌, ◌*◌, ◌%◌, ◌≤◌, ◌<◌, length, drop};
+// Printing into a lent buffer: a page is the buffer and the place from which on the next text goes. Each method leaves the page behind what
+// it printed, and all else in the buffer as it was.
+ghost use Rattle.std.specs.Prelude.{◌≡◌, [], ◌∷◌, ◌+◌, ◌%◌, ◌≤◌, ◌<◌, length, drop};
 ghost use Rattle.rules.specs.Text.{decimal, signed_decimal};
-ghost use Rattle.words.specs.Parts.{put_at};
-ghost use Rattle.text.specs.Written.{Written, hex_digit, hex_byte, hex_text};
+ghost use Rattle.text.specs.Written.{hex_digit, hex_byte, hex_text};
+ghost use Rattle.text.specs.Page.{Room, Puts};
 
 // Digits of the greatest u64.
 const MOST_DIGITS: usize = 20;
-
-// The bytes as they are.
-pub fn put_bytes(out: &mut [u8], at: usize, bytes: &[u8]) -> usize
-    requires { at + length bytes.now ≤ length out.old }
-    ensures { Written out.old at bytes.now out.new result }
-{
-    words::copy(bytes, out, at);
-    at + bytes.len()
-}
-
-// One letter.
-pub fn put_letter(out: &mut [u8], at: usize, letter: u8) -> usize
-    requires { at + 1 ≤ length out.old }
-    ensures { Written out.old at (letter ∷ []) out.new result }
-{
-    out[at] = letter;
-    at + 1
-}
 
 // The last decimal digit of a number.
 fn last_digit(n: u64) -> u8
@@ -50,37 +33,6 @@ fn spell(digits: &mut [u8], n: u64) -> usize
     from
 }
 
-// A number in decimal.
-pub fn put_decimal(out: &mut [u8], at: usize, n: u64) -> usize
-    requires { at + length (decimal n) ≤ length out.old }
-    ensures { Written out.old at (decimal n) out.new result }
-{
-    let mut digits = [0u8; MOST_DIGITS];
-    let from = spell(&mut digits, n);
-    put_bytes(out, at, &digits[from..])
-}
-
-// A letter and a number.
-pub fn put_lettered(out: &mut [u8], at: usize, letter: u8, n: u64) -> usize
-    requires { at + length (letter ∷ decimal n) ≤ length out.old }
-    ensures { Written out.old at (letter ∷ decimal n) out.new result }
-{
-    let behind = put_letter(out, at, letter);
-    put_decimal(out, behind, n)
-}
-
-// A signed number in decimal.
-pub fn put_signed(out: &mut [u8], at: usize, n: i32) -> usize
-    requires { at + length (signed_decimal n) ≤ length out.old }
-    ensures { Written out.old at (signed_decimal n) out.new result }
-{
-    let magnitude = u64::from(n.unsigned_abs());
-    if n < 0 {
-        return put_lettered(out, at, b'-', magnitude);
-    }
-    put_decimal(out, at, magnitude)
-}
-
 // A hex digit.
 fn hex_digit(d: u8) -> u8
     requires { d < 16 }
@@ -92,22 +44,88 @@ fn hex_digit(d: u8) -> u8
     87 + d
 }
 
-// A byte in two hex digits.
-fn put_byte(out: &mut [u8], at: usize, b: u8)
-    requires { at + 2 ≤ length out.old }
-    ensures { out.new ≡ put_at out.old at (hex_byte b) }
-{
-    out[at] = hex_digit(b / 16);
-    out[at + 1] = hex_digit(b % 16);
+// A lent buffer, and the place in it from which on the next text goes.
+#[derive(Drop)]
+pub struct Page<'a> {
+    out: &'a mut [u8],
+    pub at: usize,
 }
 
-// Bytes in hex, in lower case.
-pub fn put_hex(out: &mut [u8], at: usize, bytes: &[u8]) -> usize
-    requires { at + 2 * length bytes.now ≤ length out.old }
-    ensures { Written out.old at (hex_text bytes.now) out.new result }
-{
-    for (i, b) in bytes.iter().enumerate() {
-        put_byte(out, at + 2 * i, *b);
+impl<'a> Page<'a> {
+    // The buffer, to be printed into from a place on.
+    pub fn new(out: &'a mut [u8], at: usize) -> Page<'a>
+        ensures same_buffer { result.out.ghost_name ≡ out.entry.ghost_name }
+        ensures holds { result.out.now ≡ out.old }
+        ensures begins { result.at ≡ at }
+    {
+        Page { out, at }
     }
-    at + 2 * bytes.len()
+
+    // The bytes as they are.
+    pub fn put_bytes(&mut self, bytes: &[u8])
+        requires { Room self.old bytes.now }
+        ensures { Puts self.old bytes.now self.new }
+    {
+        words::copy(bytes, self.out, self.at);
+        self.at += bytes.len();
+    }
+
+    // One letter.
+    pub fn put_letter(&mut self, letter: u8)
+        requires { Room self.old (letter ∷ []) }
+        ensures { Puts self.old (letter ∷ []) self.new }
+    {
+        self.out[self.at] = letter;
+        self.at += 1;
+    }
+
+    // A number in decimal.
+    pub fn put_decimal(&mut self, n: u64)
+        requires { Room self.old (decimal n) }
+        ensures { Puts self.old (decimal n) self.new }
+    {
+        let mut digits = [0u8; MOST_DIGITS];
+        let from = spell(&mut digits, n);
+        self.put_bytes(&digits[from..]);
+    }
+
+    // A letter and a number.
+    pub fn put_lettered(&mut self, letter: u8, n: u64)
+        requires { Room self.old (letter ∷ decimal n) }
+        ensures { Puts self.old (letter ∷ decimal n) self.new }
+    {
+        self.put_letter(letter);
+        self.put_decimal(n);
+    }
+
+    // A signed number in decimal.
+    pub fn put_signed(&mut self, n: i32)
+        requires { Room self.old (signed_decimal n) }
+        ensures { Puts self.old (signed_decimal n) self.new }
+    {
+        let magnitude = u64::from(n.unsigned_abs());
+        if n < 0 {
+            return self.put_lettered(b'-', magnitude);
+        }
+        self.put_decimal(magnitude);
+    }
+
+    // A byte in two hex digits.
+    fn put_byte(&mut self, b: u8)
+        requires { Room self.old (hex_byte b) }
+        ensures { Puts self.old (hex_byte b) self.new }
+    {
+        self.put_letter(hex_digit(b / 16));
+        self.put_letter(hex_digit(b % 16));
+    }
+
+    // Bytes in hex, in lower case.
+    pub fn put_hex(&mut self, bytes: &[u8])
+        requires { Room self.old (hex_text bytes.now) }
+        ensures { Puts self.old (hex_text bytes.now) self.new }
+    {
+        for b in bytes {
+            self.put_byte(*b);
+        }
+    }
 }

@@ -8,9 +8,9 @@ use Rattle.dump.proofs.put_ends.Goals as goal
 pub loop-e-init : goal.loop-e-init
 loop-e-init c = no_line c.requires.sound.1.state_sound.S1.end_count_is
 
-pub put_end-next-requires : goal.put_end-next-requires
+pub put_end-requires : goal.put_end-requires
 unfolding ends_text
-put_end-next-requires c =
+put_end-requires c =
     let pre = c.requires in
     let below = c.loop-e-test.true in
     record {
@@ -19,7 +19,7 @@ put_end-next-requires c =
     }
 
 pub loop-e-preserved : goal.loop-e-preserved
-loop-e-preserved c = line_more c.loop-e.invariant free_end c.loop-e-test.true c.put_end-next.ensures
+loop-e-preserved c = line_more c.loop-e.invariant free_end c.loop-e-test.true c.put_end.ensures
 
 pub returns : goal.returns
 unfolding ends_text

@@ -6,4 +6,4 @@ use Rattle.dump.proofs.OneByOne.{LinesTo}
 use Rattle.dump.proofs.put_ends.Given as goal
 
 abbrev pub invariant-loop-e : goal.invariant-loop-e
-invariant-loop-e l = LinesTo end_text end_count (view l.m).ends l.initial.out l.at l.out l.next l.e
+invariant-loop-e l = LinesTo end_text end_count (view l.m).ends l.initial.page l.page l.e

@@ -8,9 +8,9 @@ use Rattle.dump.proofs.put_records.Goals as goal
 pub loop-r-init : goal.loop-r-init
 loop-r-init c = no_line c.requires.sound.1.state_sound.S1.record_count_is
 
-pub put_record-next-requires : goal.put_record-next-requires
+pub put_record-requires : goal.put_record-requires
 unfolding records_text
-put_record-next-requires c =
+put_record-requires c =
     let pre = c.requires in
     let below = c.loop-r-test.true in
     record {
@@ -19,7 +19,7 @@ put_record-next-requires c =
     }
 
 pub loop-r-preserved : goal.loop-r-preserved
-loop-r-preserved c = line_more c.loop-r.invariant free_record c.loop-r-test.true c.put_record-next.ensures
+loop-r-preserved c = line_more c.loop-r.invariant free_record c.loop-r-test.true c.put_record.ensures
 
 pub returns : goal.returns
 unfolding records_text

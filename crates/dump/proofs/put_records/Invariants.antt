@@ -6,4 +6,4 @@ use Rattle.dump.proofs.OneByOne.{LinesTo}
 use Rattle.dump.proofs.put_records.Given as goal
 
 abbrev pub invariant-loop-r : goal.invariant-loop-r
-invariant-loop-r l = LinesTo record_text record_count (view l.m).records l.initial.out l.at l.out l.next l.r
+invariant-loop-r l = LinesTo record_text record_count (view l.m).records l.initial.page l.page l.r

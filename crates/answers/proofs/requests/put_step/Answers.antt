@@ -2,19 +2,25 @@
 use Rattle.std.proofs.Common.{ap, ℕ, arith}
 use Rattle.rules.specs.Numbers.{reply_number}
 use Rattle.rules.specs.Text.{text}
-use Rattle.text.proofs.Texts.{written_more, written_as}
+use Rattle.text.proofs.Texts.{written_more, written_as, printed_length}
 use Rattle.answers.specs.Answers.{number_line}
 use Rattle.answers.proofs.Texts.{step_text_lem, step_length}
 use Rattle.answers.proofs.requests.put_step.Goals as goal
+
+pub put_decimal-requires : goal.put_decimal-requires
+put_decimal-requires c =
+    let a = c.args in
+    let p = c.put_bytes.ensures in
+    omega (arith, step_length a.name.now a.n (reply_number a.reply), c.requires, p.place, printed_length p)
 
 pub put_number_line-requires : goal.put_number_line-requires
 unfolding text
 put_number_line-requires c =
     let a = c.args in
-    let p = c.put_bytes-number.ensures.place in
-    let q = c.put_decimal-behind.ensures.place in
+    let p = c.put_bytes.ensures in
+    let q = c.put_decimal.ensures in
     rw c.number_of.ensures
-    (omega (arith, step_length a.name.now a.n (reply_number a.reply), c.requires, p, q))
+    (omega (arith, step_length a.name.now a.n (reply_number a.reply), c.requires, p.place, printed_length p, q.place, printed_length q))
 
 pub returns : goal.returns
 unfolding text
@@ -22,4 +28,4 @@ returns c =
     let a = c.args in
     let line = written_as (ap (λ (k : ℕ). number_line (text ": ") k) c.number_of.ensures) c.put_number_line.ensures in
     written_as (step_text_lem a.name.now a.n (reply_number a.reply))
-    (written_more c.put_bytes-number.ensures (written_more c.put_decimal-behind.ensures line))
+    (written_more c.put_bytes.ensures (written_more c.put_decimal.ensures line))

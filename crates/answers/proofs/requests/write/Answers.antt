@@ -3,7 +3,7 @@ use Rattle.std.proofs.Common.{◌≡◌, refl, sym, ap, ◌∙◌, List, ℕ, ar
 use Rattle.rules.specs.Image.{image_of}
 use Rattle.rules.specs.Calls.{write_answer}
 use Rattle.rules.specs.Text.{text}
-use Rattle.text.proofs.Texts.{written_more, written_as}
+use Rattle.text.proofs.Texts.{written_more, written_as, printed_length}
 use Rattle.answers.specs.Answers.{number_line, hex_line, image_room, write_answered}
 use Rattle.answers.proofs.Cases.{write_refused, Written-image, image_done}
 use Rattle.answers.proofs.requests.write.Goals as goal
@@ -17,11 +17,11 @@ done c =
     let code = c.args.code.now in
     image_done code _ refl c.in-Ok.ensures.reply c.in-Ok.ensures.memory
 
-pub put_number_line-behind-requires : goal.put_number_line-behind-requires
+pub put_number_line-requires : goal.put_number_line-requires
 unfolding text
-put_number_line-behind-requires c =
+put_number_line-requires c =
     let code = c.args.code.now in
-    let e = ap length (done (goal.at.put_number_line-behind-requires c).In-Ok).text_is in
+    let e = ap length (done (goal.at.put_number_line-requires c).In-Ok).text_is in
     omega (arith, e, length-append (number_line (text "write ") 0) (hex_line (image_of code)), c.requires)
 
 pub image_size-size-requires : goal.image_size-size-requires
@@ -53,7 +53,7 @@ put_hex_line-requires c =
     let parts = length-append (number_line (text "write ") 0) (hex_line (image_of code)) in
     let f = ap (λ (bytes : List ℕ). length (hex_line bytes)) (front (goal.at.put_hex_line-requires c).After-image_size-size
     (done (goal.at.put_hex_line-requires c).In-Ok)) in
-    omega (arith, e, parts, f, c.requires, c.put_number_line-behind.ensures.place)
+    omega (arith, e, parts, f, c.requires, c.put_number_line.ensures.place, printed_length c.put_number_line.ensures)
 
 pub put_refusal_line-requires : goal.put_refusal_line-requires
 unfolding image_room write_answered text
@@ -67,7 +67,7 @@ unfolding text
 returns-in-Ok c =
     let hex = written_as (ap (λ (bytes : List ℕ). hex_line bytes) (front (goal.at.returns-in-Ok c).After-image_size-size
     (done (goal.at.returns-in-Ok c).In-Ok))) c.put_hex_line.ensures in
-    written_as (done (goal.at.returns-in-Ok c).In-Ok).text_is (written_more c.put_number_line-behind.ensures hex)
+    written_as (done (goal.at.returns-in-Ok c).In-Ok).text_is (written_more c.put_number_line.ensures hex)
 
 pub returns-in-Err : goal.returns-in-Err
 unfolding image_room write_answered text

@@ -1,12 +1,12 @@
 -- The words, the queue, and the line's end; a free end shows nothing. Assumes nothing.
-use Rattle.std.proofs.Common.{◌≡◌, sym, ap, ◌∙◌, [], ◌∷◌, ◌++◌, ℕ, ◌+◌, ◌≤◌, length}
+use Rattle.std.proofs.Common.{◌≡◌, sym, ap, ◌∙◌, [], ◌∷◌, ◌++◌, ℕ}
 use Rattle.rules.specs.State.{end_at}
 use Rattle.rules.specs.Layout.{view}
 use Rattle.stepping.proofs.Steps.{memory_sized}
-use Rattle.text.proofs.Texts.{written_more, written_as, room_as, room_first, room_rest}
+use Rattle.text.specs.Page.{Room}
+use Rattle.text.proofs.Texts.{written_none, written_more, written_as, room_as, room_first, room_rest}
 use Rattle.dump.specs.Shown.{list_text, end_text}
 use Rattle.dump.specs.Pieces.{item_texts}
-use Rattle.dump.proofs.Parts.{written_none}
 use Rattle.dump.proofs.Queued.{free_line, head_text, used_line}
 use Rattle.dump.proofs.end_line.put_end.Goals as goal
 use Rattle.dump.proofs.end_line.put_end.Goals.{After-partner}
@@ -17,7 +17,7 @@ returns-then-is_free c =
     let m = a.m.now in
     let s = c.requires.sound.2 in
     let free = sym (c.is_free.ensures (view m) (memory_sized m s) s.laid_out) ∙ c.if-is_free.true in
-    written_as (free_line a.e (end_at (view m) a.e) free) (written_none a.out.now a.at)
+    written_as (free_line a.e (end_at (view m) a.e) free) (written_none a.page.now)
 
 -- the parts of the line
 parts : (c : After-partner)
@@ -38,39 +38,39 @@ parts c =
 whole : (c : After-partner)
     → let a = c.args in
     let x = end_at (view a.m.now) a.e in
-    a.at + length (head_text a.e c.partner.result.0 ++ list_text (item_texts x) ++ 10 ∷ []) ≤ length a.out.now
-whole c = room_as c.args.at _ _ c.args.out.now (parts c) c.requires.room
+    Room a.page.now (head_text a.e c.partner.result.0 ++ list_text (item_texts x) ++ 10 ∷ [])
+whole c = room_as c.args.page.now (parts c) c.requires.room
 
 two : (c : After-partner)
     → let a = c.args in
     let x = end_at (view a.m.now) a.e in
-    a.at + length (head_text a.e c.partner.result.0 ++ list_text (item_texts x)) ≤ length a.out.now
+    Room a.page.now (head_text a.e c.partner.result.0 ++ list_text (item_texts x))
 two c =
     let a = c.args in
     let x = end_at (view a.m.now) a.e in
-    room_first a.at (head_text a.e c.partner.result.0 ++ list_text (item_texts x)) (10 ∷ []) a.out.now (whole c)
+    room_first a.page.now (head_text a.e c.partner.result.0 ++ list_text (item_texts x)) (10 ∷ []) (whole c)
 
-pub put_head-head-requires : goal.put_head-head-requires
-put_head-head-requires c =
+pub put_head-requires : goal.put_head-requires
+put_head-requires c =
     let a = c.args in
     let x = end_at (view a.m.now) a.e in
-    room_first a.at (head_text a.e c.partner.result.0) (list_text (item_texts x)) a.out.now (two c)
+    room_first a.page.now (head_text a.e c.partner.result.0) (list_text (item_texts x)) (two c)
 
-pub put_queue-queue-requires : goal.put_queue-queue-requires
-put_queue-queue-requires c =
+pub put_queue-requires : goal.put_queue-requires
+put_queue-requires c =
     let a = c.args in
     record {
       sound = c.requires.sound;
       room = room_rest (list_text (item_texts (end_at (view a.m.now) a.e)))
-          (two (goal.at.put_queue-queue-requires c).After-partner) c.put_head-head.ensures;
+          (two (goal.at.put_queue-requires c).After-partner) c.put_head.ensures;
     }
 
 pub put_letter-requires : goal.put_letter-requires
 put_letter-requires c =
     room_rest (10 ∷ []) (whole (goal.at.put_letter-requires c).After-partner)
-    (written_more c.put_head-head.ensures c.put_queue-queue.ensures)
+    (written_more c.put_head.ensures c.put_queue.ensures)
 
 pub returns : goal.returns
 returns c =
-    let queue = written_more c.put_head-head.ensures c.put_queue-queue.ensures in
+    let queue = written_more c.put_head.ensures c.put_queue.ensures in
     written_as (parts (goal.at.returns c).After-partner) (written_more queue c.put_letter.ensures)

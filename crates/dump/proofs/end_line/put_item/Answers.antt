@@ -16,31 +16,31 @@ unfolding item_text datum_text
 put_queued_value-requires c =
     let a = c.args in
     let fits : SFits w32 c.in-Value.v = search rules in
-    rw (to_z-of_z fits) (room_as a.at _ _ a.out.now (shown c.in-Value.is) c.requires)
+    rw (to_z-of_z fits) (room_as a.page.now (shown c.in-Value.is) c.requires)
 
 pub put_lettered-requires : goal.put_lettered-requires
 unfolding item_text datum_text text
 put_lettered-requires c =
     let a = c.args in
-    room_as a.at _ _ a.out.now (shown c.in-Handle.is) c.requires
+    room_as a.page.now (shown c.in-Handle.is) c.requires
 
 pub put_split-requires : goal.put_split-requires
 unfolding item_text last_text
 put_split-requires c =
     let a = c.args in
-    room_as a.at _ _ a.out.now (shown c.in-Split.is) c.requires
+    room_as a.page.now (shown c.in-Split.is) c.requires
 
 pub put_letter-requires : goal.put_letter-requires
 unfolding item_text last_text text
 put_letter-requires c =
     let a = c.args in
-    room_as a.at _ _ a.out.now (shown c.in-Close.is) c.requires
+    room_as a.page.now (shown c.in-Close.is) c.requires
 
 pub put_lettered-requires-in-Wait : goal.put_lettered-requires-in-Wait
 unfolding item_text last_text text
 put_lettered-requires-in-Wait c =
     let a = c.args in
-    room_as a.at _ _ a.out.now (shown c.in-Wait.is) c.requires
+    room_as a.page.now (shown c.in-Wait.is) c.requires
 
 pub returns-in-Value : goal.returns-in-Value
 unfolding item_text datum_text

@@ -46,10 +46,10 @@ pub put_item-requires : goal.put_item-requires
 put_item-requires c =
     let a = c.args in
     let item = get_or (item_texts (end_at (view a.m.now) a.e)) a.k [] in
-    let put = c.put_comma-behind in
-    room_as put.result _ item put.new.out (item_is (goal.at.put_item-requires c).In-Some)
+    let put = c.put_comma in
+    room_as put.new.page (item_is (goal.at.put_item-requires c).In-Some)
     (room_rest item c.requires.room put.ensures)
 
 pub returns : goal.returns
 returns c =
-    written_more c.put_comma-behind.ensures (written_as (item_is (goal.at.returns c).In-Some) c.put_item.ensures)
+    written_more c.put_comma.ensures (written_as (item_is (goal.at.returns c).In-Some) c.put_item.ensures)

@@ -4,8 +4,7 @@ use Rattle.rules.specs.State.{record_at}
 use Rattle.rules.specs.Layout.{view}
 use Rattle.registers.specs.Registers.{status_of}
 use Rattle.stepping.proofs.Steps.{memory_sized}
-use Rattle.text.proofs.Texts.{written_as, room_as}
-use Rattle.dump.proofs.Parts.{written_none}
+use Rattle.text.proofs.Texts.{written_none, written_as, room_as}
 use Rattle.dump.proofs.Processes.{process_is, counts_within, free_line, running_line, waiting_line}
 use Rattle.dump.proofs.record_line.put_record.Goals as goal
 use Rattle.dump.proofs.record_line.put_record.Goals.{After-status_of}
@@ -28,7 +27,7 @@ put_line-requires c =
     let line = running_line a.r (record_at (view m) a.r) (process_is m s a.r loads) status in
     record {
       stack_count_bound = counts_within m s a.r loads;
-      room = room_as a.at _ _ a.out.now line c.requires.room;
+      room = room_as a.page.now line c.requires.room;
     }
 
 pub put_line-requires-in-Waiting : goal.put_line-requires-in-Waiting
@@ -41,7 +40,7 @@ put_line-requires-in-Waiting c =
     let line = waiting_line a.r (record_at (view m) a.r) (process_is m s a.r loads) status in
     record {
       stack_count_bound = counts_within m s a.r loads;
-      room = room_as a.at _ _ a.out.now line c.requires.room;
+      room = room_as a.page.now line c.requires.room;
     }
 
 pub returns-in-Free : goal.returns-in-Free
@@ -49,7 +48,7 @@ returns-in-Free c =
     let a = c.args in
     let m = a.m.now in
     let status = sym c.in-Free.is ∙ status_is (goal.at.returns-in-Free c).After-status_of in
-    written_as (free_line a.r (record_at (view m) a.r) status) (written_none a.out.now a.at)
+    written_as (free_line a.r (record_at (view m) a.r) status) (written_none a.page.now)
 
 pub returns-in-Running : goal.returns-in-Running
 returns-in-Running c =

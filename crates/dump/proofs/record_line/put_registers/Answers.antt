@@ -1,6 +1,7 @@
 -- One part after the other. Assumes nothing.
-use Rattle.std.proofs.Common.{[], ◌∷◌, ◌++◌, ◌+◌, ◌≤◌, length}
+use Rattle.std.proofs.Common.{[], ◌∷◌, ◌++◌}
 use Rattle.rules.specs.Text.{decimal}
+use Rattle.text.specs.Page.{Room}
 use Rattle.text.proofs.Texts.{written_more, written_as, room_as, room_first, room_rest}
 use Rattle.dump.specs.Shown.{values_text, slots_text}
 use Rattle.dump.specs.Pieces.{process_in}
@@ -10,75 +11,75 @@ use Rattle.dump.proofs.record_line.put_registers.Goals as goal
 use Rattle.dump.proofs.record_line.put_registers.Goals.{Start}
 
 -- room for all, and for the parts up to each
-whole : (s : Start) → let a = s.args in a.at + length (through_slots (process_in a.g) ++ 10 ∷ []) ≤ length a.out.now
-whole s = let a = s.args in room_as a.at _ _ a.out.now (registers_parts (process_in a.g)) s.requires.room
+whole : (s : Start) → let a = s.args in Room a.page.now (through_slots (process_in a.g) ++ 10 ∷ [])
+whole s = let a = s.args in room_as a.page.now (registers_parts (process_in a.g)) s.requires.room
 
-slots_room_lem : (s : Start) → let a = s.args in a.at + length (through_slots (process_in a.g)) ≤ length a.out.now
-slots_room_lem s = let a = s.args in room_first a.at (through_slots (process_in a.g)) (10 ∷ []) a.out.now (whole s)
+slots_room_lem : (s : Start) → let a = s.args in Room a.page.now (through_slots (process_in a.g))
+slots_room_lem s = let a = s.args in room_first a.page.now (through_slots (process_in a.g)) (10 ∷ []) (whole s)
 
-word_room : (s : Start) → let a = s.args in a.at + length (through_word (process_in a.g)) ≤ length a.out.now
+word_room : (s : Start) → let a = s.args in Room a.page.now (through_word (process_in a.g))
 word_room s =
     let a = s.args in
     let g = process_in a.g in
-    room_first a.at (through_word g) (slots_text g.slots) a.out.now (slots_room_lem s)
+    room_first a.page.now (through_word g) (slots_text g.slots) (slots_room_lem s)
 
-environment_room : (s : Start) → let a = s.args in a.at + length (through_environment (process_in a.g)) ≤ length a.out.now
-environment_room s = let a = s.args in room_first a.at (through_environment (process_in a.g)) slots_word a.out.now (word_room s)
+environment_room : (s : Start) → let a = s.args in Room a.page.now (through_environment (process_in a.g))
+environment_room s = let a = s.args in room_first a.page.now (through_environment (process_in a.g)) slots_word (word_room s)
 
-stack_room : (s : Start) → let a = s.args in a.at + length (through_stack (process_in a.g)) ≤ length a.out.now
+stack_room : (s : Start) → let a = s.args in Room a.page.now (through_stack (process_in a.g))
 stack_room s =
     let a = s.args in
     let g = process_in a.g in
-    room_first a.at (through_stack g) (environment_part (values_text g.environment)) a.out.now (environment_room s)
+    room_first a.page.now (through_stack g) (environment_part (values_text g.environment)) (environment_room s)
 
-pub put_decimal-placed-requires : goal.put_decimal-placed-requires
-put_decimal-placed-requires c =
+pub put_decimal-requires : goal.put_decimal-requires
+put_decimal-requires c =
     let a = c.args in
     let g = process_in a.g in
-    room_first a.at (decimal g.place) (stack_part (values_text g.stack)) a.out.now
-    (stack_room (goal.at.put_decimal-placed-requires c).Start)
+    room_first a.page.now (decimal g.place) (stack_part (values_text g.stack))
+    (stack_room (goal.at.put_decimal-requires c).Start)
 
-pub put_named_values-stacked-requires : goal.put_named_values-stacked-requires
-put_named_values-stacked-requires c =
+pub put_named_values-requires : goal.put_named_values-requires
+put_named_values-requires c =
     let g = process_in c.args.g in
     record {
       count_le_stack_depth = c.requires.stack_count_bound.0;
-      room = room_rest (stack_part (values_text g.stack)) (stack_room (goal.at.put_named_values-stacked-requires c).Start)
-          c.put_decimal-placed.ensures;
+      room = room_rest (stack_part (values_text g.stack)) (stack_room (goal.at.put_named_values-requires c).Start)
+          c.put_decimal.ensures;
     }
 
-pub put_named_values-both-requires : goal.put_named_values-both-requires
-put_named_values-both-requires c =
+pub put_named_values-requires-2 : goal.put_named_values-requires-2
+put_named_values-requires-2 c =
     let g = process_in c.args.g in
-    let written = written_more c.put_decimal-placed.ensures c.put_named_values-stacked.ensures in
+    let written = written_more c.put_decimal.ensures c.put_named_values.ensures in
     record {
       count_le_stack_depth = c.requires.stack_count_bound.1;
       room = room_rest (environment_part (values_text g.environment))
-          (environment_room (goal.at.put_named_values-both-requires c).Start) written;
+          (environment_room (goal.at.put_named_values-requires-2 c).Start) written;
     }
 
-pub put_bytes-named-requires : goal.put_bytes-named-requires
-put_bytes-named-requires c =
-    let first = written_more c.put_decimal-placed.ensures c.put_named_values-stacked.ensures in
-    let written = written_more first c.put_named_values-both.ensures in
-    room_rest slots_word (word_room (goal.at.put_bytes-named-requires c).Start) written
+pub put_bytes-requires : goal.put_bytes-requires
+put_bytes-requires c =
+    let first = written_more c.put_decimal.ensures c.put_named_values.ensures in
+    let written = written_more first c.put_named_values-2.ensures in
+    room_rest slots_word (word_room (goal.at.put_bytes-requires c).Start) written
 
-pub put_slots-held-requires : goal.put_slots-held-requires
-put_slots-held-requires c =
-    let first = written_more c.put_decimal-placed.ensures c.put_named_values-stacked.ensures in
-    let written = written_more (written_more first c.put_named_values-both.ensures) c.put_bytes-named.ensures in
-    room_rest (slots_text (process_in c.args.g).slots) (slots_room_lem (goal.at.put_slots-held-requires c).Start) written
+pub put_slots-requires : goal.put_slots-requires
+put_slots-requires c =
+    let first = written_more c.put_decimal.ensures c.put_named_values.ensures in
+    let written = written_more (written_more first c.put_named_values-2.ensures) c.put_bytes.ensures in
+    room_rest (slots_text (process_in c.args.g).slots) (slots_room_lem (goal.at.put_slots-requires c).Start) written
 
 pub put_letter-requires : goal.put_letter-requires
 put_letter-requires c =
-    let first = written_more c.put_decimal-placed.ensures c.put_named_values-stacked.ensures in
-    let written = written_more (written_more first c.put_named_values-both.ensures) c.put_bytes-named.ensures in
-    let line = written_more written c.put_slots-held.ensures in
+    let first = written_more c.put_decimal.ensures c.put_named_values.ensures in
+    let written = written_more (written_more first c.put_named_values-2.ensures) c.put_bytes.ensures in
+    let line = written_more written c.put_slots.ensures in
     room_rest (10 ∷ []) (whole (goal.at.put_letter-requires c).Start) line
 
 pub returns : goal.returns
 returns c =
-    let first = written_more c.put_decimal-placed.ensures c.put_named_values-stacked.ensures in
-    let written = written_more (written_more first c.put_named_values-both.ensures) c.put_bytes-named.ensures in
+    let first = written_more c.put_decimal.ensures c.put_named_values.ensures in
+    let written = written_more (written_more first c.put_named_values-2.ensures) c.put_bytes.ensures in
     written_as (registers_parts (process_in c.args.g))
-    (written_more (written_more written c.put_slots-held.ensures) c.put_letter.ensures)
+    (written_more (written_more written c.put_slots.ensures) c.put_letter.ensures)

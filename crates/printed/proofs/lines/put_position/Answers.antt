@@ -6,7 +6,7 @@ use Rattle.printed.proofs.lines.put_position.Goals as goal
 pub put_lettered-requires : goal.put_lettered-requires
 put_lettered-requires c =
     let a = c.args in
-    room_as a.at _ _ a.out.now (record_text a.position c.if-position.true) c.requires
+    room_as a.page.now (record_text a.position c.if-position.true) c.requires
 
 pub returns-then-position : goal.returns-then-position
 returns-then-position c = written_as (record_text c.args.position c.if-position.true) c.put_lettered.ensures
@@ -14,7 +14,7 @@ returns-then-position c = written_as (record_text c.args.position c.if-position.
 pub put_lettered-requires-2 : goal.put_lettered-requires-2
 put_lettered-requires-2 c =
     let a = c.args in
-    room_as a.at _ _ a.out.now (end_text a.position c.if-position.false) c.requires
+    room_as a.page.now (end_text a.position c.if-position.false) c.requires
 
 pub returns : goal.returns
 returns c = written_as (end_text c.args.position c.if-position.false) c.put_lettered-2.ensures

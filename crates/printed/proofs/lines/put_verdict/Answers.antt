@@ -16,7 +16,7 @@ word c = ap word_text c.word_of_verdict.ensures ∙ verdict_word c.args.verdict
 pub put_word-requires : goal.put_word-requires
 put_word-requires c =
     let a = c.args in
-    (rw c.word_of_verdict.ensures (verdict_below a.verdict), room_as a.at _ _ a.out.now (word c) c.requires)
+    (rw c.word_of_verdict.ensures (verdict_below a.verdict), room_as a.page.now (word c) c.requires)
 
 pub returns : goal.returns
 returns c = written_as (word (goal.at.returns c).After-word_of_verdict) c.put_word.ensures

@@ -1,11 +1,7 @@
 -- The lines and the last one. Assumes nothing.
-use Rattle.std.proofs.Common.{ap, ◌∙◌, ◌+◌, ◌≤◌, ◌<◌, arith, length}
-use Rattle.rules.specs.Run.{steps}
-use Rattle.rules.specs.Printed.{trace_budget, lines_text}
-use Rattle.rules.specs.Layout.{view}
-use Rattle.words.proofs.Parts.{length_put}
+use Rattle.std.proofs.Common.{◌+◌, ◌≤◌, ◌<◌, arith, length}
 use Rattle.keeping.proofs.Memories.{memory_length}
-use Rattle.text.proofs.Texts.{written_more, written_as}
+use Rattle.text.proofs.Texts.{written_more, written_as, printed_length}
 use Rattle.printed.specs.Meaning.{last_line}
 use Rattle.printed.specs.Traced.{trace_limit}
 use Rattle.printed.proofs.Lengths.{last_short}
@@ -21,7 +17,7 @@ verdict_of-verdict-requires c =
 -- the last line, behind the others, is within the limit
 last_room : (c : After-verdict_of-verdict)
     → let r = c.put_steps-lines.result in
-    r.end + length (last_line c.verdict_of-verdict.result r.made r.next) ≤ trace_limit
+    c.put_steps-lines.new.page.at + length (last_line c.verdict_of-verdict.result r.made r.next) ≤ c.args.page.now.at + trace_limit
 last_room c =
     let t = c.put_steps-lines.ensures in
     let made = c.put_steps-lines.result.made in
@@ -31,8 +27,7 @@ last_room c =
 
 pub put_last-requires : goal.put_last-requires
 put_last-requires c =
-    let text = lines_text 1 (steps trace_budget (view c.args.m.now) 0) in
-    let same = ap length c.put_steps-lines.ensures.written.memory ∙ length_put c.args.out.now 0 text in
+    let same = printed_length c.put_steps-lines.ensures.written in
     omega (arith, last_room (goal.at.put_last-requires c).After-verdict_of-verdict, same, c.requires.1)
 
 pub returns : goal.returns

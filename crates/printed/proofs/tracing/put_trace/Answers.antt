@@ -8,8 +8,8 @@ use Rattle.keeping.specs.Demand3.{SoundMemory}
 use Rattle.text.proofs.Texts.{written_as}
 use Rattle.printed.proofs.Lengths.{refused_short}
 use Rattle.printed.proofs.Whole.{refused_image, loaded_image}
-use Rattle.printed.proofs.tracing.trace.Goals as goal
-use Rattle.printed.proofs.tracing.trace.Goals.{After-number, In-Ok}
+use Rattle.printed.proofs.tracing.put_trace.Goals as goal
+use Rattle.printed.proofs.tracing.put_trace.Goals.{After-number, In-Ok}
 
 -- a number has one byte
 number_small : (c : After-number) → c.number.result < 1000
