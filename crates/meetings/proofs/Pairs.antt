@@ -17,8 +17,9 @@ use Rattle.ends.specs.declared.item.Item.{Item as ItemOfCode}
 use Rattle.ends.specs.declared.item.Item.TheVariants.{Value, Handle, Split, Close, Wait}
 use Rattle.ends.specs.Items.{item_of}
 use Rattle.ends.specs.contracts.item.Item.{the_type}
+use Rattle.std.specs.Prelude.{Some, None}
 use Rattle.meetings.specs.declared.heads.Datum.{Datum}
-use Rattle.meetings.specs.declared.heads.Meeting.TheVariants.{Mismatch, Delivers, Divides, Closes}
+use Rattle.meetings.specs.declared.heads.Meeting.TheVariants.{Delivers, Divides, Closes}
 use Rattle.meetings.specs.Heads.{datum_of, Makes}
 
 -- ---- an end whose queue begins with a last item
@@ -36,7 +37,7 @@ last_is (used m (d ∷ ds) k) h = absurd (let z : ◌≡◌ {A = ℕ} 0 1 = cc i
 
 -- ---- two heads, in the order of the ends e and f
 
-pub no_match : {e f : ℕ} {x y : Item} → ((st : State) → meet_heads st e f (some x) (some y) ≡ mismatch) → Makes e f x y Mismatch
+pub no_match : {e f : ℕ} {x y : Item} → ((st : State) → meet_heads st e f (some x) (some y) ≡ mismatch) → Makes e f x y None
 no_match q st h k = record { meets = q st; heads_are = tt }
 
 -- the tags of all items but a wait, and of all but a close
@@ -48,21 +49,21 @@ no_close = 0 ∷ 1 ∷ 2 ∷ 4 ∷ []
 
 module _ {e f : ℕ} where
   -- a datum and a split match nothing but a wait, a close nothing but a close
-  pub datum_unmet : {d : DatumOfRules} (y : ItemOfCode) → OneOf no_wait (tag_of the_type y) → Makes e f (datum d) (item_of y) Mismatch
+  pub datum_unmet : {d : DatumOfRules} (y : ItemOfCode) → OneOf no_wait (tag_of the_type y) → Makes e f (datum d) (item_of y) None
   datum_unmet (Value v) h = no_match (λ st. refl)
   datum_unmet (Handle n) h = no_match (λ st. refl)
   datum_unmet (Split p q) h = no_match (λ st. refl)
   datum_unmet Close h = no_match (λ st. refl)
   datum_unmet (Wait r) h = absurd (miss no_wait 4 tt h)
 
-  pub split_unmet : {p q : ℕ} (y : ItemOfCode) → OneOf no_wait (tag_of the_type y) → Makes e f (last (split_item p q)) (item_of y) Mismatch
+  pub split_unmet : {p q : ℕ} (y : ItemOfCode) → OneOf no_wait (tag_of the_type y) → Makes e f (last (split_item p q)) (item_of y) None
   split_unmet (Value v) h = no_match (λ st. refl)
   split_unmet (Handle n) h = no_match (λ st. refl)
   split_unmet (Split p q) h = no_match (λ st. refl)
   split_unmet Close h = no_match (λ st. refl)
   split_unmet (Wait r) h = absurd (miss no_wait 4 tt h)
 
-  pub close_unmet : (y : ItemOfCode) → OneOf no_close (tag_of the_type y) → Makes e f (last close_item) (item_of y) Mismatch
+  pub close_unmet : (y : ItemOfCode) → OneOf no_close (tag_of the_type y) → Makes e f (last close_item) (item_of y) None
   close_unmet (Value v) h = no_match (λ st. refl)
   close_unmet (Handle n) h = no_match (λ st. refl)
   close_unmet (Split p q) h = no_match (λ st. refl)
@@ -71,16 +72,16 @@ module _ {e f : ℕ} where
 
 module _ (e f : End) where
   pub datum_then_wait : (d : Datum) (r : Record)
-      → Makes (end_number e) (end_number f) (datum (datum_of d)) (last (wait_item (record_number r))) (Delivers e f d r)
+      → Makes (end_number e) (end_number f) (datum (datum_of d)) (last (wait_item (record_number r))) (Some (Delivers e f d r))
   datum_then_wait d r st h k = record { meets = refl; heads_are = record { datum_heads = h; wait_heads = k } }
 
   pub wait_then_datum : (d : Datum) (r : Record)
-      → Makes (end_number e) (end_number f) (last (wait_item (record_number r))) (datum (datum_of d)) (Delivers f e d r)
+      → Makes (end_number e) (end_number f) (last (wait_item (record_number r))) (datum (datum_of d)) (Some (Delivers f e d r))
   wait_then_datum d r st h k = record { meets = refl; heads_are = record { datum_heads = k; wait_heads = h } }
 
   pub split_then_wait : (p q : End) (r : Record)
       → Makes (end_number e) (end_number f) (last (split_item (end_number p) (end_number q))) (last (wait_item (record_number r)))
-      (Divides p q r)
+      (Some (Divides p q r))
   split_then_wait p q r st h k = record {
     meets = refl;
     heads_are = (
@@ -91,7 +92,7 @@ module _ (e f : End) where
 
   pub wait_then_split : (p q : End) (r : Record)
       → Makes (end_number e) (end_number f) (last (wait_item (record_number r))) (last (split_item (end_number p) (end_number q)))
-      (Divides p q r)
+      (Some (Divides p q r))
   wait_then_split p q r st h k = record {
     meets = refl;
     heads_are = (
@@ -100,7 +101,7 @@ module _ (e f : End) where
     );
   }
 
-  pub two_closes : Makes (end_number e) (end_number f) (last close_item) (last close_item) Closes
+  pub two_closes : Makes (end_number e) (end_number f) (last close_item) (last close_item) (Some Closes)
   two_closes st h k = record {
     meets = refl;
     heads_are = record { none_here = last_alone (end_at st (end_number e)) h; none_there = last_alone (end_at st (end_number f)) k };
