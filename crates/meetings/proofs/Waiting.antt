@@ -17,7 +17,7 @@ use Rattle.rules.specs.Refusal.{NoCause}
 use Rattle.rules.specs.Instruction.{Instruction, cst, access, store, add, mul, leq, put, get, split, fork, plug, close, halt, same}
 use Rattle.rules.specs.Instruction.{hput, hcase, run, Decoded, decode, place_at, places_at}
 use Rattle.rules.specs.Causes.{own_causes}
-use Rattle.rules.specs.EndStep.{Wanted, a_value, a_handle, a_split, Wait, wait_of, decoded_wait, waiter_with, waiter_in}
+use Rattle.rules.specs.EndStep.{Wanted, a_value, a_handle, Wait, wait_of, decoded_wait, waiter_with, waiter_in}
 use Rattle.rules.specs.EndStep.{Meeting, mismatch, delivers, meet_datum, meet_split, datum_against, split_against}
 use Rattle.rules.specs.Sound.{RegistersWithin, RecordWithin}
 use Rattle.rules.specs.Layout.{view}
@@ -34,44 +34,34 @@ use Rattle.meetings.specs.declared.wanted.Wanted.TheVariants.{Value as Value', H
 use Rattle.meetings.specs.Heads.{DatumWaits}
 use Rattle.meetings.specs.Wanted.{wanted_by, wanted_of, HasRoom, RunsOn}
 use Rattle.meetings.specs.contracts.wanted.Wanted.{the_type}
-use Rattle.meetings.proofs.Pairs.{last_is}
-use Rattle.meetings.proofs.Changes.{head_in_list}
+use Rattle.meetings.proofs.Ends.{head_in_list, last_is}
 
 -- ---- what is wanted at a place
 
 abbrev pub wanted_at : List ℕ → (place : ℕ) → Option Wanted
 wanted_at code place = wanted_by (decoded_wait (decode code place))
 
-abbrev is_value : Option Wanted → ℕ
-is_value none = 0
-is_value (some (a_value next)) = 1
-is_value (some (a_handle places)) = 0
-is_value (some (a_split a m place b m' place')) = 0
-
-no_value : {A : Type 0} {x : Option Wanted} {n : ℕ} → x ≡ some (a_value n) → is_value x ≡ 0 → A
-no_value h q = absurd (omega (arith, ap is_value h, q))
-
 -- a record that wants a value stands at a get, whose own causes leave room for it
 room_left : (g : Process) (i : Instruction) (next n : ℕ) → NoCause (own_causes g i) → wanted_by (wait_of i next) ≡ some (a_value n)
     → length g.stack < stack_depth
 unfolding own_causes
-room_left g (cst v) next n own h = no_value h refl
-room_left g (access k) next n own h = no_value h refl
-room_left g store next n own h = no_value h refl
-room_left g add next n own h = no_value h refl
-room_left g mul next n own h = no_value h refl
-room_left g leq next n own h = no_value h refl
-room_left g (put c) next n own h = no_value h refl
+room_left g (cst v) next n own h = absurd cc
+room_left g (access k) next n own h = absurd cc
+room_left g store next n own h = absurd cc
+room_left g add next n own h = absurd cc
+room_left g mul next n own h = absurd cc
+room_left g leq next n own h = absurd cc
+room_left g (put c) next n own h = absurd cc
 room_left g (get c) next n own h = leb-false stack_depth (length g.stack) own.0
-room_left g (split c a b) next n own h = no_value h refl
-room_left g (fork c a m place b m' place') next n own h = no_value h refl
-room_left g (plug a m place m' place') next n own h = no_value h refl
-room_left g (close c) next n own h = no_value h refl
-room_left g (halt c) next n own h = no_value h refl
-room_left g (same c d) next n own h = no_value h refl
-room_left g (hput c k) next n own h = no_value h refl
-room_left g (hcase c places) next n own h = no_value h refl
-room_left g (run place k cs) next n own h = no_value h refl
+room_left g (split c a b) next n own h = absurd cc
+room_left g (fork c a m place b m' place') next n own h = absurd cc
+room_left g (plug a m place m' place') next n own h = absurd cc
+room_left g (close c) next n own h = absurd cc
+room_left g (halt c) next n own h = absurd cc
+room_left g (same c d) next n own h = absurd cc
+room_left g (hput c k) next n own h = absurd cc
+room_left g (hcase c places) next n own h = absurd cc
+room_left g (run place k cs) next n own h = absurd cc
 
 -- ---- the waiting record
 

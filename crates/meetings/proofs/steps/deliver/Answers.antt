@@ -7,7 +7,7 @@ use Rattle.stepping.proofs.Steps.{refused_step, done_step, memory_sized}
 use Rattle.meetings.specs.Heads.{datum_of}
 use Rattle.meetings.proofs.Answers.{met_mismatch, met_delivers}
 use Rattle.meetings.proofs.Waiting.{waits_there, datum_within, held_is, room_there, against}
-use Rattle.meetings.proofs.Changes.{heads_differ}
+use Rattle.meetings.proofs.Ends.{heads_differ}
 use Rattle.meetings.proofs.steps.deliver.Goals as goal
 
 pub load-held-requires : goal.load-held-requires
