@@ -1,27 +1,24 @@
--- split over plain variables: the state after, which test leads to which answer, the four ends that the word of free ends names, and that
--- free ends stay free while others are put anew. Assumes nothing.
-use mathlib.Core.Path.{◌≡◌, sym, ap, ◌∙◌}
-use mathlib.Core.Logic.{◌≢◌}
+-- split over plain variables: the state after, which test leads to which answer, and the four ends that the word of free ends names.
+-- Assumes nothing.
+use mathlib.Core.Path.{◌≡◌, sym, ◌∙◌}
 use mathlib.Core.Bool.{true, false}
-use Prim.Native.Nat.{ℕ, ◌≤◌, ◌<◌}
+use Prim.Native.Nat.{ℕ, ◌≤◌}
 use native.Mathlib.Omega.{arith}
 use lib.ListN.{length}
-use Rattle.rules.specs.State.{State, Registers as Process, registers, EndState, free_end, last, split_item, running, end_at, end_in}
-use Rattle.rules.specs.State.{set_record, set_end, appended, fresh_end, is_free_end}
+use Rattle.rules.specs.State.{State, Registers as Process, registers, last, split_item, running, end_at, end_in}
+use Rattle.rules.specs.State.{set_record, set_end, appended, fresh_end}
 use Rattle.rules.specs.Slots.{emptied, holding}
 use Rattle.rules.specs.Refusal.{refused, done, unless}
 use Rattle.rules.specs.Instruction.{split}
 use Rattle.rules.specs.Causes.{queue_full, few_free_ends, shared_causes}
 use Rattle.rules.specs.RecordStep.{lowest_free, append, paired, after}
 use Rattle.rules.specs.Layout.{free_word}
-use Rattle.rules.proofs.TestLaws.{true_is_not_false}
 use Rattle.keeping.proofs.LayoutLaws.{Sized}
 use Rattle.keeping.proofs.FreeLaws.{FourFree, four_free}
 use Rattle.ends.specs.declared.word.FourEnds.{FourEnds}
 use Rattle.ends.specs.Words.{ends_in, FourLowest}
 use Rattle.ends.proofs.Changes.{sized_anew}
 use Rattle.ends.proofs.Words.{agrees}
-use Rattle.stepping.proofs.Steps.{other_end}
 use Rattle.stepping.proofs.FreeEnds.{enough_ends}
 use Rattle.channels.specs.Splitting.{FourWithin, shared_answer}
 
@@ -94,43 +91,4 @@ new_within st z new n =
       q_within = omega (arith, f.first_two.q_free.in_list, z.ends_sized);
       s_within = omega (arith, f.last_two.p_free.in_list, z.ends_sized);
       t_within = omega (arith, f.last_two.q_free.in_list, z.ends_sized);
-    }
-
--- ---- ends that stay free
-
-stays_free : (st : State) (e : ℕ) (x : EndState) (p : ℕ) → p ≢ e → end_at st p ≡ free_end → end_at (set_end st e x) p ≡ free_end
-stays_free st e x p differ h = other_end st e p x differ ∙ h
-
--- a free end is none in use, so it stays free when one in use is put anew
-beside : (st : State) (e : ℕ) (x : EndState) (p : ℕ) → is_free_end (end_at st e) ≡ false → end_at st p ≡ free_end
-    → end_at (set_end st e x) p ≡ free_end
-beside st e x p in_use h =
-    stays_free st e x p (λ z. true_is_not_false (ap (λ (k : ℕ). is_free_end (end_at st k)) (sym z) ∙ ap is_free_end h) in_use) h
-
--- what the two pairings ask: p and q are free, and with these two paired s and t still are
-pub record PairsFree (st : State) (p q s t : ℕ) : Type 0 where
-  pub p_free : end_at st p ≡ free_end
-  pub q_free : end_at st q ≡ free_end
-  pub p_not_q : p ≢ q
-  pub s_free : end_at (paired st p q) s ≡ free_end
-  pub t_free : end_at (paired st p q) t ≡ free_end
-  pub s_not_t : s ≢ t
-
-pub pairs_free : (st : State) (e : ℕ) (x : EndState) (p q s t : ℕ) → is_free_end (end_at st e) ≡ false → FourFree st p q s t
-    → PairsFree (set_end st e x) p q s t
-pairs_free st e x p q s t in_use four =
-    let st₁ = set_end st e x in
-    let st₂ = set_end st₁ p (fresh_end q) in
-    let p<q : p < q = four.first_two.p_below_q in
-    let q<s : q < s = four.q_below_s in
-    let s<t : s < t = four.last_two.p_below_q in
-    let s₁ = beside st e x s in_use four.last_two.p_free.is_free in
-    let t₁ = beside st e x t in_use four.last_two.q_free.is_free in
-    record {
-      p_free = beside st e x p in_use four.first_two.p_free.is_free;
-      q_free = beside st e x q in_use four.first_two.q_free.is_free;
-      p_not_q = λ h. omega arith;
-      s_free = stays_free st₂ q (fresh_end p) s (λ h. omega arith) (stays_free st₁ p (fresh_end q) s (λ h. omega arith) s₁);
-      t_free = stays_free st₂ q (fresh_end p) t (λ h. omega arith) (stays_free st₁ p (fresh_end q) t (λ h. omega arith) t₁);
-      s_not_t = λ h. omega arith;
     }

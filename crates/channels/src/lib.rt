@@ -1,7 +1,7 @@
 // The instructions on channels, each on a memory known to be sound. Each loads the registers, tests its refusals in the order of document
 // 01's numbers, 5 to 11 by `causes`, 13 and 15 by what is shared, and then stores.
 
-#![tactic(auto)]
+#![tactic(auto, using(keeping::proofs::Memories::memory_length))]
 
 mod queue; // queue.rt: an item appended to the queue of the end that a slot holds
 mod sending; // sending.rt: put, close, halt, hput

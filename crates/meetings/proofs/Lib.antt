@@ -1,5 +1,3 @@
 pub mod Answers
-pub mod Pairs
 pub mod Waiting
-pub mod Changes
-pub mod Decoding
+pub mod Ends

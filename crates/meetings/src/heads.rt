@@ -15,10 +15,10 @@ pub enum Datum {
     Handle(u8),
 }
 
-// What two heads make. The registers that a record runs on with are not in here: what it wants is looked at when the step is made.
+// What two heads that match make. The registers that a record runs on with are not in here: what it wants is looked at when the step is
+// made.
 #[derive(Clone, Copy)]
 pub enum Meeting {
-    Mismatch,
     // the datum at the head of `from` meets the wait of a record at the head of `to`
     Delivers {
         from: End,
@@ -36,73 +36,73 @@ pub enum Meeting {
 }
 
 // A datum at the head of e, an item at the head of f.
-fn datum_meets(e: End, f: End, datum: Datum, y: Item) -> Meeting
+fn datum_meets(e: End, f: End, datum: Datum, y: Item) -> Option<Meeting>
     ensures { Makes (end_number e) (end_number f) (datum_item (datum_of datum)) (item_of y) result }
 {
     let Item::Wait(r) = y else {
-        return Meeting::Mismatch;
+        return None;
     };
-    Meeting::Delivers {
+    Some(Meeting::Delivers {
         from: e,
         to: f,
         datum,
         record: r,
-    }
+    })
 }
 
 // A split at the head of e, an item at the head of f.
-fn split_meets(e: End, f: End, first: End, second: End, y: Item) -> Meeting
+fn split_meets(e: End, f: End, first: End, second: End, y: Item) -> Option<Meeting>
     ensures { Makes (end_number e) (end_number f) (last (split_item (end_number first) (end_number second))) (item_of y) result }
 {
     let Item::Wait(r) = y else {
-        return Meeting::Mismatch;
+        return None;
     };
-    Meeting::Divides {
+    Some(Meeting::Divides {
         first,
         second,
         record: r,
-    }
+    })
 }
 
 // A close at the head of e, an item at the head of f.
-fn close_meets(e: End, f: End, y: Item) -> Meeting
+fn close_meets(e: End, f: End, y: Item) -> Option<Meeting>
     ensures { Makes (end_number e) (end_number f) (last close_item) (item_of y) result }
 {
     if let Item::Close = y {
-        return Meeting::Closes;
+        return Some(Meeting::Closes);
     }
-    Meeting::Mismatch
+    None
 }
 
 // The wait of a record at the head of e, an item at the head of f.
-fn wait_meets(e: End, f: End, r: Record, y: Item) -> Meeting
+fn wait_meets(e: End, f: End, r: Record, y: Item) -> Option<Meeting>
     ensures { Makes (end_number e) (end_number f) (last (wait_item (record_number r))) (item_of y) result }
 {
     match y {
-        Item::Value(v) => Meeting::Delivers {
+        Item::Value(v) => Some(Meeting::Delivers {
             from: f,
             to: e,
             datum: Datum::Value(v),
             record: r,
-        },
-        Item::Handle(n) => Meeting::Delivers {
+        }),
+        Item::Handle(n) => Some(Meeting::Delivers {
             from: f,
             to: e,
             datum: Datum::Handle(n),
             record: r,
-        },
-        Item::Split(first, second) => Meeting::Divides {
+        }),
+        Item::Split(first, second) => Some(Meeting::Divides {
             first,
             second,
             record: r,
-        },
-        Item::Close => Meeting::Mismatch,
-        Item::Wait(_) => Meeting::Mismatch,
+        }),
+        Item::Close => None,
+        Item::Wait(_) => None,
     }
 }
 
-// What x at the head of e and y at the head of f make.
-pub fn meeting_of(e: End, f: End, x: Item, y: Item) -> Meeting
+// What x at the head of e and y at the head of f make, where they match.
+pub fn meeting_of(e: End, f: End, x: Item, y: Item) -> Option<Meeting>
     ensures { Makes (end_number e) (end_number f) (item_of x) (item_of y) result }
 {
     match x {

@@ -31,8 +31,10 @@ fn meet(m: &mut [u8], e: End, f: End, x: Item, y: Item) -> Result<(), Refusal>
     ensures { Met m.old (end_number e) (end_number f)
         (meet_heads (view m.old) (end_number e) (end_number f) (some (item_of x)) (some (item_of y))) result m.new }
 {
-    match meeting_of(e, f, x, y) {
-        Meeting::Mismatch => Err(Refusal::HeadsMismatch),
+    let Some(meeting) = meeting_of(e, f, x, y) else {
+        return Err(Refusal::HeadsMismatch);
+    };
+    match meeting {
         Meeting::Delivers {
             from,
             to,

@@ -3,7 +3,7 @@
 ghost use Rattle.std.specs.Prelude.{◌≡◌, ◌≢◌, ◌<◌, length};
 ghost use Rattle.rules.specs.Limits.{end_count, record_count};
 ghost use Rattle.rules.specs.Numbers.{end_number, record_number};
-ghost use Rattle.rules.specs.State.{State, Registers as Process, value, handle, running, end_at, set_record, set_end, behind_head};
+ghost use Rattle.rules.specs.State.{State, Registers as Process, running, end_at, set_record, set_end, behind_head};
 ghost use Rattle.rules.specs.EndStep.{closes, freed};
 ghost use Rattle.rules.specs.Layout.{state_size, layout, view};
 ghost use Rattle.keeping.specs.Demand3.{SoundMemory};
@@ -11,6 +11,7 @@ ghost use Rattle.keeping.proofs.LayoutLaws.{Sized};
 ghost use Rattle.ends.specs.Ends.{EndFits};
 ghost use Rattle.registers.specs.Registers.{registers_of};
 ghost use Rattle.meetings.specs.Heads.{datum_of, DatumWaits, NoData, SplitWaits};
+ghost use Rattle.meetings.specs.Wanted.{HasRoom, RunsOn};
 ghost use Rattle.meetings.specs.Stepped.{Met, DatumMet, SplitMet};
 
 use crate::heads::Datum;
@@ -33,37 +34,24 @@ fn take_both(m: &mut [u8], from: End, to: End, r: Record, x: Registers)
     registers::save_running(m, r, x);
 }
 
-// A value against a get: the record runs on after the get, value pushed.
-fn deliver_value(m: &mut [u8], from: End, to: End, v: i32, r: Record) -> Result<(), Refusal>
-    requires sound_memory { SoundMemory m.old }
-    requires datum_waits { DatumWaits (view m.old) (end_number from) (end_number to) (value v) (record_number r) }
-    ensures { DatumMet m.old (end_number from) (end_number to) (record_number r) (value v) result m.new }
+// The registers that a record with these registers runs on with where the datum is what it waits for: a value for a get, after it with the
+// value pushed; a handle n for an hcase of k places with n < k, at its place n.
+fn runs_on(m: &[u8], held: Registers, datum: Datum) -> Option<Registers>
+    requires sound_memory { SoundMemory m.now }
+    requires room { HasRoom (view m.now).code held }
+    ensures { (g : Process) → held ≡ registers_of g → RunsOn (view m.now).code g (datum_of datum) result }
 {
-    let held = registers::load(m, r);
-    let Some(Wanted::Value(next)) = wanted_at(m, held.place) else {
-        return Err(Refusal::HeadsMismatch);
-    };
-    let pushed = held.push(v);
-    take_both(m, from, to, r, pushed.at(next));
-    Ok(())
-}
-
-// A handle n against an hcase of k places with n < k: the record runs at place n.
-fn deliver_handle(m: &mut [u8], from: End, to: End, n: u8, r: Record) -> Result<(), Refusal>
-    requires sound_memory { SoundMemory m.old }
-    requires datum_waits { DatumWaits (view m.old) (end_number from) (end_number to) (handle n) (record_number r) }
-    ensures { DatumMet m.old (end_number from) (end_number to) (record_number r) (handle n) result m.new }
-{
-    let held = registers::load(m, r);
-    let Some(Wanted::Handle(k)) = wanted_at(m, held.place) else {
-        return Err(Refusal::HeadsMismatch);
-    };
-    if k <= n {
-        return Err(Refusal::HeadsMismatch);
+    match (datum, wanted_at(m, held.place)?) {
+        (Datum::Value(v), Wanted::Value(next)) => {
+            let pushed = held.push(v);
+            Some(pushed.at(next))
+        }
+        (Datum::Handle(n), Wanted::Handle(k)) if n < k => {
+            let place = code::case_place(stepping::code(m), held.place as usize, n);
+            Some(held.at(place))
+        }
+        _ => None,
     }
-    let place = code::case_place(stepping::code(m), held.place as usize, n);
-    take_both(m, from, to, r, held.at(place));
-    Ok(())
 }
 
 // The datum at the head of `from` meets the wait of record r at the head of `to`.
@@ -73,10 +61,12 @@ pub fn deliver(m: &mut [u8], from: End, to: End, datum: Datum, r: Record) -> Res
     ensures { DatumMet m.old (end_number from) (end_number to) (record_number r) (datum_of datum)
         result m.new }
 {
-    match datum {
-        Datum::Value(v) => deliver_value(m, from, to, v, r),
-        Datum::Handle(n) => deliver_handle(m, from, to, n, r),
-    }
+    let held = registers::load(m, r);
+    let Some(after) = runs_on(m, held, datum) else {
+        return Err(Refusal::HeadsMismatch);
+    };
+    take_both(m, from, to, r, after);
+    Ok(())
 }
 
 // Both ends of a pair without values and handles become free.

@@ -3,30 +3,26 @@
 use mathlib.Core.Path.{◌≡◌, refl, sym, ap, ◌∙◌, subst}
 use mathlib.Core.Logic.{◌≢◌}
 use mathlib.Core.Bool.{false}
-use mathlib.Core.Option.{Option, none, some}
+use mathlib.Core.Option.{none}
 use mathlib.Core.List.{List, [], ◌∷◌}
-use Prim.Native.Nat.{ℕ, ◌<◌}
+use Prim.Native.Nat.{ℕ}
 use native.Mathlib.Omega.{arith}
 use lib.Dec.{ltb}
 use borrow.Author.Tests.{eqb-false, ltb-false}
-use Rattle.rules.specs.Limits.{end_count}
-use Rattle.rules.specs.State.{State, Datum, Last, EndState, free_end, used, Registers, free_record, running, record_at, end_at, set_record}
-use Rattle.rules.specs.State.{set_end, end_in, end_or, is_free_end, queue_length, data_of, partner_of, with_partner}
+use Rattle.rules.specs.State.{State, Datum, EndState, used, Registers, free_record, running, record_at, end_at, set_record}
+use Rattle.rules.specs.State.{end_in, queue_length, partner_of}
 use Rattle.rules.specs.Refusal.{refused, done, NoCause}
 use Rattle.rules.specs.Instruction.{same}
 use Rattle.rules.specs.Causes.{names, own_causes, shared_causes}
-use Rattle.rules.specs.RecordStep.{lowest_free, after, partner_in, joined}
+use Rattle.rules.specs.RecordStep.{lowest_free, after, joined}
 use Rattle.rules.specs.Ask.{answer_to}
 use Rattle.rules.specs.Count.{δ}
 use Rattle.rules.specs.Sound.{in_slot, held_in, in_use, places_of, Sound}
 use Rattle.rules.proofs.CountLaws.{δ-same, total_one, total_two}
 use Rattle.keeping.proofs.LayoutLaws.{Sized}
-use Rattle.keeping.proofs.Running.{used_in_list}
-use Rattle.keeping.proofs.Joining.{PartnerOf, partner_of_lem}
 use Rattle.ends.proofs.Changes.{sized_anew}
 use Rattle.causes.specs.Own.{own_reply}
 use Rattle.causes.proofs.Shared.{none_holds, one_holds, goes_on, own_done}
-use Rattle.stepping.proofs.Steps.{other_end}
 use Rattle.stepping.proofs.OwnEnds.{SlotEnd, slot_end}
 use Rattle.processes.specs.Joinable.{shared_reply, Joinable}
 
@@ -90,79 +86,6 @@ module _ (st : State) (s : Sound st) (r : ℕ) (g : Registers) (is : record_at s
     same_done next e = own_done st r next g (same c d) passes ∙ goes_on (shared_causes st g (same c d)) _ e
 
 -- ---- the state with two ends joined
-
--- u and v are the partners of x and y, as the code reads them
-module _ (st : State) (s : Sound st) (x y : ℕ) (j : Joinable st x y) (u v : ℕ) (ue : u ≡ end_or 0 (partner_of (end_at st x)))
-    (ve : v ≡ end_or 0 (partner_of (end_at st y))) where
-  -- the partner of an end in use
-  read : (e k m : ℕ) → k ≡ end_or 0 (partner_of (end_at st e)) → end_at st e ≡ used m [] none → k ≡ m
-  read e k m q was = q ∙ ap (λ (z : EndState). end_or 0 (partner_of z)) was
-
-  x_was : end_at st x ≡ used u [] none
-  x_was = j.x_was ∙ ap (λ (k : ℕ). used k [] none) (sym (read x u _ ue j.x_was))
-
-  y_was : end_at st y ≡ used v [] none
-  y_was = j.y_was ∙ ap (λ (k : ℕ). used k [] none) (sym (read y v _ ve j.y_was))
-
-  one_partner : {a b : ℕ} {ds es : List Datum} {k l : Option Last} → used a ds k ≡ used b es l → a ≡ b
-  one_partner {a} {b} h = let z : some a ≡ some b = ap partner_of h in cc
-
-  ux : PartnerOf st x u
-  ux = partner_of_lem st s x u [] none x_was
-
-  vy : PartnerOf st y v
-  vy = partner_of_lem st s y v [] none y_was
-
-  uy : u ≢ y
-  uy z = j.apart (sym (read x u _ ue j.x_was) ∙ z)
-
-  vx : v ≢ x
-  vx z = uy (one_partner (sym x_was ∙ ap (end_at st) (sym z) ∙ vy.was))
-
-  vu : v ≢ u
-  vu z = j.differ (one_partner (sym ux.was ∙ ap (end_at st) (sym z) ∙ vy.was))
-
-  abbrev without : State
-  without = set_end (set_end st x free_end) y free_end
-
-  abbrev half : State
-  half = set_end without u (with_partner v (end_at without u))
-
-  u_stays : end_at without u ≡ end_at st u
-  u_stays = other_end (set_end st x free_end) y u free_end uy ∙ other_end st x u free_end ux.differs
-
-  v_stays : end_at half v ≡ end_at st v
-  v_stays = other_end without u v _ vu ∙ other_end (set_end st x free_end) y v free_end vy.differs ∙ other_end st x v free_end vx
-
-  pub record Joins : Type 0 where
-    pub x_in_range : x < end_count
-    pub y_in_range : y < end_count
-    pub u_in_range : u < end_count
-    pub v_in_range : v < end_count
-    pub x_empty : data_of (end_at st x) ≡ []
-    pub y_empty : data_of (end_at (set_end st x free_end) y) ≡ []
-    pub u_used : is_free_end (end_at without u) ≡ false
-    pub v_used : is_free_end (end_at half v) ≡ false
-    pub joined_is : set_end half v (with_partner u (end_at half v)) ≡ joined st x y
-
-  in_ends : (e m : ℕ) (ds : List Datum) (l : Option Last) → end_at st e ≡ used m ds l → e < end_count
-  in_ends e m ds l was = omega (arith, used_in_list st e m ds l was, s.S1.end_count_is)
-
-  pub joins : Joins
-  joins = record {
-    x_in_range = in_ends x u [] none x_was;
-    y_in_range = in_ends y v [] none y_was;
-    u_in_range = in_ends u x _ _ ux.was;
-    v_in_range = in_ends v y _ _ vy.was;
-    x_empty = ap data_of x_was;
-    y_empty = ap data_of (other_end st x y free_end (λ z. j.differ (sym z)) ∙ y_was);
-    u_used = ap is_free_end (u_stays ∙ ux.was);
-    v_used = ap is_free_end (v_stays ∙ vy.was);
-    joined_is =
-        let partner_x : partner_in st x ≡ u = ap (λ (z : EndState). end_or end_count (partner_of z)) x_was in
-        let partner_y : partner_in st y ≡ v = ap (λ (z : EndState). end_or end_count (partner_of z)) y_was in
-        rw (v_stays, u_stays, partner_x, partner_y);
-  }
 
 pub sized_joined : (st : State) (x y : ℕ) → Sized st → Sized (joined st x y)
 sized_joined st x y z = sized_anew _ _ _ (sized_anew _ _ _ (sized_anew _ y _ (sized_anew st x _ z)))

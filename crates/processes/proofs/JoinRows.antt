@@ -40,7 +40,7 @@ module _ (st : State) (g : Registers) (c d : ℕ) where
   mated x y k xe ye used-x q = rw (sym xe, sym ye) (go (end_at st x) refl)
     where
       go : (z : EndState) → end_at st x ≡ z → eqb k y ≡ names (partner_of (end_at st x)) y
-      go free_end e = absurd (let one : ◌≡◌ {A = ℕ} 1 0 = cc in omega arith)
+      go free_end e = absurd cc
       go (used m ds l) e = rw e (ap (λ (n : ℕ). eqb n y) (q ∙ ap (λ (z : EndState). end_or 0 (partner_of z)) e))
 
 -- the length of a queue that is read

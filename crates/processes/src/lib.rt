@@ -1,6 +1,6 @@
 // The instructions that change which processes there are, or which code one runs, each on a memory known to be sound: run, plug, same.
 
-#![tactic(auto)]
+#![tactic(auto, using(keeping::proofs::Memories::memory_length))]
 
 mod calling; // calling.rt: run
 mod joining; // joining.rt: same

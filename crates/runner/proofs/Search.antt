@@ -28,7 +28,7 @@ use Rattle.registers.specs.declared.records.Status.TheVariants.{Running}
 use Rattle.registers.specs.contracts.records.Status.{the_type}
 use Rattle.registers.specs.Registers.{status_of}
 use Rattle.meetings.proofs.Answers.{end_free, own_empty, partner_empty}
-use Rattle.meetings.proofs.Changes.{partner_shown}
+use Rattle.meetings.proofs.Ends.{partner_shown}
 use Rattle.asking.specs.Stepped.{PositionStepped}
 use Rattle.asking.proofs.Answers.{free, waits, of_a_record, of_an_end}
 use Rattle.std.specs.Prelude.{Option as Maybe, Some, None}

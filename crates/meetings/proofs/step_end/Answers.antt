@@ -10,7 +10,7 @@ use Rattle.ends.specs.Items.{head_in}
 use Rattle.ends.proofs.Fitting.{sound_fits}
 use Rattle.stepping.proofs.Steps.{refused_step, promised_as, memory_sized}
 use Rattle.meetings.proofs.Answers.{over_the_last, end_free, own_empty, partner_empty, both_head}
-use Rattle.meetings.proofs.Changes.{partner_shown}
+use Rattle.meetings.proofs.Ends.{partner_shown}
 use Rattle.meetings.proofs.step_end.Goals as goal
 use Rattle.meetings.proofs.step_end.Goals.{After-head, After-head-2, After-partner-f, Else-is_free}
 
@@ -90,14 +90,10 @@ returns-in_default-head c =
     (partner_empty (view c.args.m.now) e within (in_use (goal.at.returns-in_default-head c).Else-is_free) _
     (partner_here (goal.at.returns-in_default-head c).After-partner-f).0 own empty)
 
-pub meet-requires : goal.meet-requires
-meet-requires c =
-    let p = c.requires in
-    let own = head_here (goal.at.meet-requires c).After-head ∙ ap head_in c.in-Some.is in
-    record {
-      sound_memory = (p, c.if-end.false, (partner_here (goal.at.meet-requires c).After-partner-f).1);
-      heads = (own, head_there (goal.at.meet-requires c).After-head-2 ∙ ap head_in c.in-Some-head.is);
-    }
+pub meet-requires-clause-heads : goal.meet-requires-clause-heads
+meet-requires-clause-heads c =
+    let at = goal.at.meet-requires-clause-heads c in
+    (head_here at.After-head ∙ ap head_in c.in-Some.is, head_there at.After-head-2 ∙ ap head_in c.in-Some-head.is)
 
 pub returns : goal.returns
 returns c =

@@ -1,9 +1,8 @@
 -- close: 8, 13, or a close on the queue and the slot emptied. Assumes nothing.
-use Rattle.std.proofs.Common.{refl, ◌∙◌}
+use Rattle.std.proofs.Common.{refl}
 use Rattle.rules.specs.Instruction.{close}
 use Rattle.rules.specs.Causes.{shared_causes}
 use Rattle.rules.specs.RecordStep.{after}
-use Rattle.keeping.proofs.Memories.{memory_length}
 use Rattle.stepping.proofs.Steps.{registers_ok}
 use Rattle.stepping.proofs.Begun.{Begun, own_refuses, shared_left}
 use Rattle.channels.proofs.Answers.{holds_end, runs_here, full_step, sent}
@@ -11,9 +10,6 @@ use Rattle.channels.proofs.Named.{close_named}
 use Rattle.channels.proofs.sending.close.Goals as goal
 use Rattle.channels.proofs.sending.close.Goals.{In_ok-close}
 use Rattle.rules.specs.Refusal.{done}
-
-pub load-held-requires : goal.load-held-requires
-load-held-requires c = (memory_length _ c.requires.0, c.requires.1)
 
 -- no row 5 to 11 holds
 passed : (c : In_ok-close) → let a = c.args in
@@ -34,9 +30,6 @@ returns-in_err-append c g is =
     let b = passed (goal.at.returns-in_err-append c).In_ok-close in
     full_step _ _ c.from_residual-in_err-append.ensures.1 (c.in_err-append.ensures _ g (runs_here b _ (close_named _) g is)) _
     (shared_left b g is _)
-
-pub save_running-requires : goal.save_running-requires
-save_running-requires c = (c.append.auto.m ∙ memory_length _ c.requires.0, c.requires.1)
 
 pub returns : goal.returns
 unfolding shared_causes after

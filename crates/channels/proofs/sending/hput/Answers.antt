@@ -1,18 +1,14 @@
 -- hput: 8, 13, or the handle on the queue. Assumes nothing.
-use Rattle.std.proofs.Common.{refl, ◌∙◌}
+use Rattle.std.proofs.Common.{refl}
 use Rattle.rules.specs.Instruction.{hput}
 use Rattle.rules.specs.Causes.{shared_causes}
 use Rattle.rules.specs.RecordStep.{after}
-use Rattle.keeping.proofs.Memories.{memory_length}
 use Rattle.stepping.proofs.Begun.{Begun, own_refuses, shared_left}
 use Rattle.channels.proofs.Answers.{holds_end, runs_here, full_step, sent}
 use Rattle.channels.proofs.Named.{hput_named}
 use Rattle.channels.proofs.sending.hput.Goals as goal
 use Rattle.channels.proofs.sending.hput.Goals.{In_ok-hput}
 use Rattle.rules.specs.Refusal.{done}
-
-pub load-held-requires : goal.load-held-requires
-load-held-requires c = (memory_length _ c.requires.0, c.requires.1)
 
 -- no row 5 to 11 holds
 passed : (c : In_ok-hput) → let a = c.args in
@@ -33,9 +29,6 @@ returns-in_err-append c g is =
     let b = passed (goal.at.returns-in_err-append c).In_ok-hput in
     let runs = runs_here b _ (λ g. hput_named _ g _) g is in
     full_step _ _ c.from_residual-in_err-append.ensures.1 (c.in_err-append.ensures _ g runs) _ (shared_left b g is _)
-
-pub save_running-requires : goal.save_running-requires
-save_running-requires c = (c.append.auto.m ∙ memory_length _ c.requires.0, c.requires.1)
 
 pub returns : goal.returns
 unfolding shared_causes after

@@ -3,10 +3,9 @@ use Rattle.std.proofs.Common.{◌≡◌, sym, ap, ◌∙◌, subst, false, ℕ, 
 use Rattle.rules.specs.State.{Registers as Process, Value, datum, value}
 use Rattle.rules.specs.Instruction.{put}
 use Rattle.rules.specs.Causes.{fewer, own_causes, shared_causes}
-use Rattle.rules.specs.Refusal.{NoCause, refused, done}
+use Rattle.rules.specs.Refusal.{NoCause, done}
 use Rattle.rules.specs.RecordStep.{after}
 use Rattle.rules.specs.Sound.{ValueWithin}
-use Rattle.keeping.proofs.Memories.{memory_length}
 use Rattle.registers.specs.Registers.{popped}
 use Rattle.registers.proofs.Fields.{by_fields}
 use Rattle.stepping.specs.Stepped.{shown_by}
@@ -16,9 +15,6 @@ use Rattle.channels.proofs.Answers.{holds_end, runs_here, full_step, sent}
 use Rattle.channels.proofs.Named.{put_named}
 use Rattle.channels.proofs.sending.put.Goals as goal
 use Rattle.channels.proofs.sending.put.Goals.{In_ok-put}
-
-pub load-held-requires : goal.load-held-requires
-load-held-requires c = (memory_length _ c.requires.0, c.requires.1)
 
 -- no row 5 to 11 holds
 passed : (c : In_ok-put) → let a = c.args in
@@ -51,9 +47,6 @@ returns-in_err-append c g is =
     let b = passed (goal.at.returns-in_err-append c).In_ok-put in
     full_step _ _ c.from_residual-in_err-append.ensures.1 (c.in_err-append.ensures _ g (runs_here b _ (put_named _) g is)) _
     (shared_left b g is _)
-
-pub save_running-requires : goal.save_running-requires
-save_running-requires c = (c.append.auto.m ∙ memory_length _ c.requires.0, c.requires.1)
 
 pub returns : goal.returns
 unfolding shared_causes after

@@ -1,15 +1,11 @@
 -- split: 8, 11, 13, 15, or two new pairs and the split on the queue. Assumes nothing.
 use Rattle.rules.specs.Instruction.{split}
-use Rattle.keeping.proofs.Memories.{memory_length}
 use Rattle.stepping.proofs.Begun.{Begun, own_refuses, shared_left}
 use Rattle.channels.proofs.Answers.{holds_end, runs_here, shared_step}
 use Rattle.channels.proofs.Named.{split_named}
 use Rattle.channels.proofs.splitting.split.Goals as goal
 use Rattle.channels.proofs.splitting.split.Goals.{In_ok-split}
 use Rattle.rules.specs.Refusal.{done}
-
-pub load-held-requires : goal.load-held-requires
-load-held-requires c = (memory_length _ c.requires.0, c.requires.1)
 
 -- no row 5 to 11 holds
 passed : (c : In_ok-split) → let a = c.args in
@@ -21,12 +17,9 @@ returns-in_err-split c g is =
     own_refuses _ _ c.from_residual.ensures.1
     (record { sound = c.requires.0; load_is = c.load-held.ensures; reply_is = c.in_err-split.ensures }) _ g is
 
-pub split_at-requires : goal.split_at-requires
-split_at-requires c =
-    record {
-      holds_end = holds_end (passed (goal.at.split_at-requires c).In_ok-split) _ (λ g. split_named _ g _ _);
-      r_bound = c.requires.1;
-    }
+pub split_at-requires-clause-holds_end : goal.split_at-requires-clause-holds_end
+split_at-requires-clause-holds_end c =
+    holds_end (passed (goal.at.split_at-requires-clause-holds_end c).In_ok-split) _ (λ g. split_named _ g _ _)
 
 pub returns : goal.returns
 returns c g is =

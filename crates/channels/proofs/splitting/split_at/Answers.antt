@@ -1,5 +1,5 @@
 -- split_at: 13 by the count, 15 by the word of free ends, or the four lowest free ends in use. Assumes nothing.
-use Rattle.std.proofs.Common.{◌≡◌, ◌∙◌, ◌<◌, arith}
+use Rattle.std.proofs.Common.{◌≡◌, ◌<◌, arith}
 use Rattle.rules.specs.Limits.{end_count}
 use Rattle.rules.specs.State.{Registers as Process, end_in}
 use Rattle.rules.specs.Layout.{view, free_word}
@@ -33,9 +33,6 @@ returns-then-queued-ge-QUEUE_DEPTH c g h =
     let is_full = full s h _ (here (goal.at.returns-then-queued-ge-QUEUE_DEPTH c).After-own_end-end g h) c.queued.ensures.queued
     c.if-queued-ge-QUEUE_DEPTH.true in
     record { shared = refused_step 13 (split_full (view a.m.now) _ _ g _ _ _ is_full) }
-
-pub free_word-free-requires : goal.free_word-free-requires
-free_word-free-requires c = memory_length _ c.requires.holds_end.sound
 
 -- the word that is read is that of the free ends
 word_is : (c : After-free_word-free) → c.free_word-free.result ≡ free_word (view c.args.m.now).ends
@@ -73,9 +70,6 @@ pub split_registers-requires : goal.split_registers-requires
 split_registers-requires c =
     let w = new_within _ (memory_sized _ c.requires.holds_end.sound) _ (new (goal.at.split_registers-requires c).After-four_lowest-new) in
     (w.p_within, w.s_within)
-
-pub save_running-requires : goal.save_running-requires
-save_running-requires c = (c.split_ends.auto.m ∙ memory_length _ c.requires.holds_end.sound, c.requires.r_bound)
 
 pub returns : goal.returns
 returns c g h =

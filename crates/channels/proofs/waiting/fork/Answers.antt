@@ -2,16 +2,12 @@
 use Rattle.rules.specs.Instruction.{fork}
 use Rattle.rules.specs.Causes.{shared_causes}
 use Rattle.rules.specs.RecordStep.{after}
-use Rattle.keeping.proofs.Memories.{memory_length}
 use Rattle.stepping.proofs.Begun.{Begun, own_refuses, shared_left}
 use Rattle.channels.proofs.Answers.{holds_end, runs_here, waited_step}
 use Rattle.channels.proofs.Named.{fork_named}
 use Rattle.channels.proofs.waiting.fork.Goals as goal
 use Rattle.channels.proofs.waiting.fork.Goals.{In_ok-fork}
 use Rattle.rules.specs.Refusal.{done}
-
-pub load-held-requires : goal.load-held-requires
-load-held-requires c = (memory_length _ c.requires.0, c.requires.1)
 
 -- no row 5 to 11 holds
 passed : (c : In_ok-fork) → let a = c.args in
@@ -23,12 +19,9 @@ returns-in_err-fork c next g is =
     own_refuses _ _ c.from_residual.ensures.1
     (record { sound = c.requires.0; load_is = c.load-held.ensures; reply_is = c.in_err-fork.ensures }) _ g is
 
-pub wait_at-requires : goal.wait_at-requires
-wait_at-requires c =
-    record {
-      holds_end = holds_end (passed (goal.at.wait_at-requires c).In_ok-fork) _ (λ g. fork_named _ g _ _ _ _ _ _);
-      r_bound = c.requires.1;
-    }
+pub wait_at-requires-clause-holds_end : goal.wait_at-requires-clause-holds_end
+wait_at-requires-clause-holds_end c =
+    holds_end (passed (goal.at.wait_at-requires-clause-holds_end c).In_ok-fork) _ (λ g. fork_named _ g _ _ _ _ _ _)
 
 pub returns : goal.returns
 unfolding shared_causes after

@@ -3,16 +3,12 @@ use Rattle.std.proofs.Common.{List, [], ℕ}
 use Rattle.rules.specs.Instruction.{hcase}
 use Rattle.rules.specs.Causes.{shared_causes}
 use Rattle.rules.specs.RecordStep.{after}
-use Rattle.keeping.proofs.Memories.{memory_length}
 use Rattle.stepping.proofs.Begun.{Begun, own_refuses, shared_left}
 use Rattle.channels.proofs.Answers.{holds_end, runs_here, waited_step}
 use Rattle.channels.proofs.Named.{hcase_named}
 use Rattle.channels.proofs.waiting.hcase.Goals as goal
 use Rattle.channels.proofs.waiting.hcase.Goals.{In_ok-hcase}
 use Rattle.rules.specs.Refusal.{done}
-
-pub load-held-requires : goal.load-held-requires
-load-held-requires c = (memory_length _ c.requires.0, c.requires.1)
 
 -- no row 5 to 11 holds
 passed : (c : In_ok-hcase) (places : List ℕ) → let a = c.args in
@@ -24,12 +20,9 @@ returns-in_err-hcase c next places g is =
     own_refuses _ _ c.from_residual.ensures.1
     (record { sound = c.requires.0; load_is = c.load-held.ensures; reply_is = λ g w e. c.in_err-hcase.ensures g places w e }) _ g is
 
-pub wait_at-requires : goal.wait_at-requires
-wait_at-requires c =
-    record {
-      holds_end = holds_end (passed (goal.at.wait_at-requires c).In_ok-hcase []) _ (λ g. hcase_named _ g _);
-      r_bound = c.requires.1;
-    }
+pub wait_at-requires-clause-holds_end : goal.wait_at-requires-clause-holds_end
+wait_at-requires-clause-holds_end c =
+    holds_end (passed (goal.at.wait_at-requires-clause-holds_end c).In_ok-hcase []) _ (λ g. hcase_named _ g _)
 
 pub returns : goal.returns
 unfolding shared_causes after

@@ -1,14 +1,10 @@
 -- wait_at: 13, or a wait on the queue and the record waiting as it stands. Assumes nothing.
-use Rattle.std.proofs.Common.{refl, ◌∙◌}
-use Rattle.keeping.proofs.Memories.{memory_length}
+use Rattle.std.proofs.Common.{refl}
 use Rattle.channels.proofs.Answers.{full_step, sent}
 use Rattle.channels.proofs.waiting.wait_at.Goals as goal
 
 pub returns-in_err-append : goal.returns-in_err-append
 returns-in_err-append c g h = record { waited = full_step _ _ c.from_residual.ensures.1 (c.in_err-append.ensures _ g h) _ refl }
-
-pub save_waiting-requires : goal.save_waiting-requires
-save_waiting-requires c = (c.append.auto.m ∙ memory_length _ c.requires.holds_end.sound, c.requires.r_bound)
 
 pub returns : goal.returns
 returns c g h =

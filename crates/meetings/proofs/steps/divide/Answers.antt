@@ -1,5 +1,5 @@
 -- A split against what the record wants: 18, 19, or two branches run and both ends are free. Assumes nothing.
-use Rattle.std.proofs.Common.{ap, ◌∙◌, ◌≤◌, ◌<◌, arith}
+use Rattle.std.proofs.Common.{ap, ◌∙◌, ◌≤◌, ◌<◌, arith, rules}
 use Rattle.std.specs.Prelude.{Option as Maybe, Some}
 use Rattle.registers.specs.Registers.{record_or}
 use Rattle.rules.specs.Layout.{view}
@@ -12,7 +12,7 @@ use Rattle.meetings.specs.Wanted.{wanted_of}
 use Rattle.stepping.proofs.FreeRecords.{no_record, some_record}
 use Rattle.meetings.proofs.Answers.{met_mismatch, met_divides, met_no_record}
 use Rattle.meetings.proofs.Waiting.{waits_there, Found, found, split_for, split_found, no_split_wanted}
-use Rattle.meetings.proofs.Changes.{split_within}
+use Rattle.meetings.proofs.Ends.{split_within}
 use borrow.Enum.Refused.{opened}
 use Rattle.meetings.proofs.steps.divide.Goals as goal
 use Rattle.meetings.proofs.steps.divide.Goals.{After-wanted_at, Start}
@@ -41,7 +41,7 @@ returns-in_default c =
     let there = found m c.requires.sound_memory.0 _ _ c.requires.no_data.1.wait_heads _ (Some _) c.load-held.ensures c.in_default.ensures in
     let g = there.waits.held in
     let met = split_found (view m) _ there a.first.0 a.second.0
-    ∙ no_split_wanted (view m).code g.place g _ (opened c.in_default.in_default-own.keys2) a.first.0 a.second.0 a.r.0 in
+    ∙ no_split_wanted (view m).code g.place g _ (search (rules, opened)) a.first.0 a.second.0 a.r.0 in
     refused_step 18 (met_mismatch (view m) _ _ met)
 
 pub returns-in_default-2 : goal.returns-in_default-2

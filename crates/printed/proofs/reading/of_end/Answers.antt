@@ -7,7 +7,7 @@ use Rattle.rules.specs.Layout.{view}
 use Rattle.ends.specs.Items.{head_in}
 use Rattle.ends.proofs.Fitting.{sound_fits}
 use Rattle.stepping.proofs.Steps.{memory_sized}
-use Rattle.meetings.proofs.Changes.{partner_shown}
+use Rattle.meetings.proofs.Ends.{partner_shown}
 use Rattle.printed.proofs.Telling.{head_in_use, end_prints, own_empty, partner_empty}
 use Rattle.printed.proofs.reading.of_end.Goals as goal
 use Rattle.printed.proofs.reading.of_end.Goals.{After-head, After-head-2, After-partner}

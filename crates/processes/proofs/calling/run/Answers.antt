@@ -26,23 +26,17 @@ returns-in_err-refusal c next g is =
     (record { sound = c.requires.0; load_is = c.load-held.ensures; reply_is = λ g w e. c.in_err-refusal.ensures g c.args.place w e })
     next g is
 
-pub callee-after-requires : goal.callee-after-requires
-callee-after-requires c =
-    let p = c.requires in
+pub callee-after-requires-clause-n_bound : goal.callee-after-requires-clause-n_bound
+callee-after-requires-clause-n_bound c =
     let b = passed c in
-    let g = p.1.process in
-    let is = p.1.runs in
+    let g = c.requires.1.process in
+    let is = c.requires.1.runs in
     let some = enough g c.args.place _ _ (passes b g is) in
     let count = (by_fields g (held b g is)).stack_count_is in
-    record {
-      sound_memory = (p.0, p.2);
-      n_bound = (omega (arith, some, count), omega (arith, some, (within b g is).stack_within));
-    }
+    (omega (arith, some, count), omega (arith, some, (within b g is).stack_within))
 
 pub save_running-requires : goal.save_running-requires
-save_running-requires c =
-    let p = c.requires in
-    (memory_length _ p.0, in_range _ p.0 _ p.1)
+save_running-requires c = let p = c.requires in (memory_length _ p.0, in_range _ p.0 _ p.1)
 
 pub returns : goal.returns
 returns c next g is =

@@ -70,26 +70,16 @@ returns-in_err-refusal c next g is =
     (shared_refused (view a.m.now) s a.r.0 g is a.c.0 a.d.0 (passes (passed (goal.at.returns-in_err-refusal c).In_ok-same) g is) next _
     (sym (told y g is c.in_err-refusal.ensures))))
 
-pub join-requires : goal.join-requires
-join-requires c =
+pub join-requires-clause-sound_memory : goal.join-requires-clause-sound_memory
+join-requires-clause-sound_memory c =
     let a = c.args in
-    let p = c.requires in
-    let st = view a.m.now in
-    let g = p.sound_memory.1.process in
-    let is = p.sound_memory.1.runs in
-    let j = joinable st p.sound_memory.0.state_sound a.r.0 g is a.c.0 a.d.0 (passes (passed (goal.at.join-requires c).In_ok-same) g is)
-    (sym (told (goal.at.join-requires c).After-own_end-y g is c.in_ok-refusal.ensures)) in
-    record {
-      m_len = p.m_len;
-      sound_memory = (
-        p.sound_memory.0,
-        rw (
-          first (goal.at.join-requires c).After-own_end-x g is,
-          second
-              (goal.at.join-requires c).After-own_end-y g is,
-        ) j,
-      );
-    }
+    let p = c.requires.sound_memory in
+    let at = goal.at.join-requires-clause-sound_memory c in
+    let g = p.1.process in
+    let is = p.1.runs in
+    let none = sym (told at.After-own_end-y g is c.in_ok-refusal.ensures) in
+    let j = joinable (view a.m.now) p.0.state_sound a.r.0 g is a.c.0 a.d.0 (passes (passed at.In_ok-same) g is) none in
+    (p.0, rw (first at.After-own_end-x g is, second at.After-own_end-y g is) j)
 
 pub returns : goal.returns
 returns c next g is =

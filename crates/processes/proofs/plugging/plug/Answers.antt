@@ -30,9 +30,6 @@ returns-in_err-plug c next g is =
     own_refuses _ _ c.from_residual.ensures.1
     (record { sound = c.requires.0; load_is = c.load-held.ensures; reply_is = c.in_err-plug.ensures }) next g is
 
-pub free_word-word-requires : goal.free_word-word-requires
-free_word-word-requires c = memory_length _ c.requires.0
-
 -- the word that is read is that of the free ends
 word_read : (c : After-free_word-word) → c.free_word-word.result ≡ free_word (view c.args.m.now).ends
 word_read c =
@@ -46,9 +43,6 @@ returns-then-count-lt2 c next g is =
     let few = few_ends st (memory_sized _ c.requires.0) _ (word_read (goal.at.returns-then-count-lt2 c).After-free_word-word)
     c.count.ensures 2 c.if-count-lt2.true in
     refused_step 15 (too_few_ends st a.r.0 next g _ _ _ _ _ (passes (passed (goal.at.returns-then-count-lt2 c).In_ok-plug) g is) few)
-
-pub lowest_free_record-requires : goal.lowest_free_record-requires
-lowest_free_record-requires c = memory_length _ c.requires.0
 
 -- two ends are free
 two : (c : Else-count-lt2) → few_free_ends 2 (view c.args.m.now) ≡ false
@@ -78,22 +72,18 @@ new_read c = let s = c.requires.0 in c.in-Some.ensures.lowest _ (memory_sized _ 
 some : (c : In-Some) → no_free_record (view c.args.m.now) ≡ false
 some c = some_record _ (omega (arith, c.in-Some.ensures.within, new_read c))
 
-pub divide-requires : goal.divide-requires
-divide-requires c =
-    let p = c.requires in record {
-      m_len = memory_length _ p.0;
-      sound_memory = (
-        p.0,
-        p.1,
-        record {
-          word_is = word_read (goal.at.divide-requires c).After-free_word-word;
-          two_ends = two
-              (goal.at.divide-requires c).Else-count-lt2;
-          new_is = new_read (goal.at.divide-requires c).In-Some;
-          a_record = some (goal.at.divide-requires c).In-Some;
-        },
-      );
-    }
+pub divide-requires-clause-sound_memory : goal.divide-requires-clause-sound_memory
+divide-requires-clause-sound_memory c =
+    let at = goal.at.divide-requires-clause-sound_memory c in (
+      c.requires.0,
+      c.requires.1,
+      record {
+        word_is = word_read at.After-free_word-word;
+        two_ends = two at.Else-count-lt2;
+        new_is = new_read at.In-Some;
+        a_record = some at.In-Some;
+      },
+    )
 
 pub returns : goal.returns
 returns c next g is =

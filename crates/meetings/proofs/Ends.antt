@@ -1,18 +1,14 @@
--- The changes that a step at an end makes, one after the other, and what a sound state says of the ends that they are about. Assumes
--- nothing.
+-- What a sound state says of the ends that a step at an end is about. Assumes nothing.
 use mathlib.Core.Path.{◌≡◌, refl, sym, ap, ◌∙◌, subst}
 use mathlib.Core.Logic.{◌≢◌}
 use mathlib.Core.Bool.{false}
-use mathlib.Core.Option.{some}
-use mathlib.Core.List.{[]}
+use mathlib.Core.Option.{none, some}
+use mathlib.Core.List.{[], ◌∷◌}
 use Prim.Native.Nat.{ℕ, ◌<◌}
-use native.Mathlib.Decide.{ℕ_discrete}
 use native.Mathlib.Omega.{arith}
-use lib.ListN.{length}
-use lib.Seq.{get_or-set_same}
 use Rattle.rules.specs.Limits.{end_count}
 use Rattle.rules.specs.State.{State, Datum, Last, split_item, Item, datum, last, EndState, free_end, used}
-use Rattle.rules.specs.State.{end_at, set_end, end_or, head_of, data_of, partner_of, is_free_end}
+use Rattle.rules.specs.State.{end_at, end_or, head_of, last_of, partner_of, is_free_end}
 use Rattle.rules.specs.RecordStep.{partner_in}
 use Rattle.rules.specs.Sound.{in_last, Sound}
 use Rattle.rules.proofs.CountLaws.{δ-same}
@@ -20,33 +16,27 @@ use Rattle.rules.proofs.SoundLaws.{carried_within}
 use Rattle.rules.proofs.TestLaws.{true_is_not_false}
 use Rattle.keeping.proofs.Running.{used_in_list}
 use Rattle.keeping.proofs.Joining.{partner_of_lem}
-use Rattle.stepping.proofs.Steps.{other_end}
-use Rattle.meetings.proofs.Pairs.{last_is}
 
--- no data here stays so when another end, or this one, is freed
-pub no_data_still : (st : State) (e f : ℕ) → e < length st.ends → data_of (end_at st f) ≡ []
-    → data_of (end_at (set_end st e free_end) f) ≡ []
-no_data_still st e f within h = go (ℕ_discrete e f)
-  where
-    go : Dec (e ≡ f) → data_of (end_at (set_end st e free_end) f) ≡ []
-    go (yes q) = ap data_of (ap (end_at (set_end st e free_end)) (sym q) ∙ get_or-set_same st.ends e free_end free_end within)
-    go (no n) = ap data_of (other_end st e f free_end (λ z. n (sym z))) ∙ h
-
--- ---- ends that a step at an end is about
+-- the head that is a last item is the last item
+pub last_is : (x : EndState) {l : Last} → head_of x ≡ some (last l) → last_of x ≡ some l
+last_is free_end h = absurd cc
+last_is (used m [] none) h = absurd cc
+last_is (used m [] (some k)) {l} h = let z : k ≡ l = cc in ap (λ (y : Last). some y) z
+last_is (used m (d ∷ ds) k) h = absurd cc
 
 -- an end with a head is one of the state's
 pub head_in_list : (st : State) → Sound st → (e : ℕ) {x : Item} → head_of (end_at st e) ≡ some x → e < end_count
 head_in_list st s e h = go (end_at st e) refl
   where
     go : (y : EndState) → end_at st e ≡ y → e < end_count
-    go free_end q = absurd (let z = sym (ap head_of q) ∙ h in let n : ◌≡◌ {A = ℕ} 0 1 = cc in omega arith)
+    go free_end q = let z = sym (ap head_of q) ∙ h in absurd cc
     go (used m ds l) q = omega (arith, used_in_list st e m ds l q, s.S1.end_count_is)
 
 -- a datum and a last item head two ends
 pub heads_differ : (st : State) (from to : ℕ) {d : Datum} {l : Last} → head_of (end_at st from) ≡ some (datum d)
     → head_of (end_at st to) ≡ some (last l) → from ≢ to
 heads_differ st from to h k z =
-    absurd (let q = sym h ∙ ap (λ (e : ℕ). head_of (end_at st e)) z ∙ k in let n : ◌≡◌ {A = ℕ} 0 1 = cc in omega arith)
+    let q = sym h ∙ ap (λ (e : ℕ). head_of (end_at st e)) z ∙ k in absurd cc
 
 -- the ends that a split carries are two of the state's
 pub split_within : (st : State) → Sound st → (from p q : ℕ) → head_of (end_at st from) ≡ some (last (split_item p q))
