@@ -56,8 +56,8 @@ pub enum Name {
     Poke,
 }
 
-// A command with no word behind its name. The names are compared one by one: an arm of a `match` on byte strings tells a proof only how long
-// the word is.
+// A command with no word behind its name. The names are compared one by one: an arm of a `match` on byte strings tells a proof only how
+// long the word is.
 fn bare(word: &[u8]) -> Option<Command>
     ensures is { (bytes : List ℕ) → meaning bytes result ≡ bare_asked word.now }
     ensures within { byte_count result ≡ 0 }

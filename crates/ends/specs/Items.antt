@@ -1,5 +1,5 @@
--- Which item of `rules` an item of the code stands for, and which cell of the state memory holds it. `Maybe` is the name here for the Option
--- of the code. Assumes nothing.
+-- Which item of `rules` an item of the code stands for, and which cell of the state memory holds it. `Maybe` is the
+-- name here for the Option of the code. Assumes nothing.
 use Rattle.std.specs.Prelude.{ℕ, ◌/◌, ◌%◌, Option as Maybe, Some, None}
 use Rattle.std.proofs.Math.Option.{Option, none, some}
 use Rattle.std.specs.Int.{w32}

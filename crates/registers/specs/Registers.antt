@@ -1,6 +1,6 @@
 -- Which registers of `rules` the registers of the code stand for, and what the code's methods make of them. `Process` is the name here for
--- the registers of `rules`: a place, two lists of values and a list of slots. The code has the same in arrays of fixed length. `Maybe` is the
--- name here for the Option of the code. Assumes nothing.
+-- the registers of `rules`: a place, two lists of values and a list of slots. The code has the same in arrays of fixed length. `Maybe` is
+-- the name here for the Option of the code. Assumes nothing.
 use Rattle.std.specs.Prelude.{ℕ, ◌+◌, ◌*◌, List, ◌∷◌, map, reverse, length, take, drop, pos, Option as Maybe, Some, None}
 use Rattle.std.proofs.Math.Option.{Option, none, some}
 use Rattle.std.specs.Int.{w32}
