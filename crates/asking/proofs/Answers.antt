@@ -1,5 +1,5 @@
 -- The cases of asking a record over plain variables: which status and which decoding leads to which answer. Assumes nothing.
-use mathlib.Core.Path.{◌≡◌, refl, ap}
+use mathlib.Core.Path.{◌≡◌, refl}
 use mathlib.Core.Option.{none, some}
 use Prim.Native.Nat.{ℕ, ◌-◌, ◌≤◌, ◌<◌}
 use native.Mathlib.Omega.{arith}
@@ -11,8 +11,7 @@ use Rattle.rules.specs.Refusal.{refused}
 use Rattle.rules.specs.Instruction.{Instruction, decode}
 use Rattle.rules.specs.Ask.{answer_to, ask_record, ask_end, ask}
 use Rattle.rules.specs.Sound.{Sound}
-use Rattle.registers.specs.declared.records.Status.{Status}
-use Rattle.registers.specs.declared.records.Status.TheVariants.{Free, Running, Waiting}
+use Rattle.registers.specs.declared.records.Status.TheVariants.{Free, Waiting}
 use Rattle.registers.specs.Registers.{status_of}
 
 -- ---- a record that runs
@@ -33,36 +32,23 @@ pub over : (st : State) → Sound st → (r : ℕ) → record_count ≤ r → as
 unfolding ask_record
 over st s r h = rw (get_or-eq_default st.records free_record {n = r} (omega (arith, h, s.S1.record_count_is)))
 
-abbrev is_free : Status → ℕ
-is_free Free = 0
-is_free Running = 1
-is_free Waiting = 2
-
 pub free : (st : State) (r : ℕ) → Free ≡ status_of (record_at st r) → ask_record st r ≡ refused 2
 unfolding ask_record
 free st r e = go (record_at st r) refl e
   where
     go : (x : RecordState) → record_at st r ≡ x → Free ≡ status_of x → ask_record st r ≡ refused 2
     go free_record q z = rw q
-    go (running g) q z = absurd (omega (arith, ap is_free z))
-    go (waiting g) q z = absurd (omega (arith, ap is_free z))
+    go (running g) q z = absurd cc
+    go (waiting g) q z = absurd cc
 
 pub waits : (st : State) (r : ℕ) → Waiting ≡ status_of (record_at st r) → ask_record st r ≡ refused 3
 unfolding ask_record
 waits st r e = go (record_at st r) refl e
   where
     go : (x : RecordState) → record_at st r ≡ x → Waiting ≡ status_of x → ask_record st r ≡ refused 3
-    go free_record q z = absurd (omega (arith, ap is_free z))
-    go (running g) q z = absurd (omega (arith, ap is_free z))
+    go free_record q z = absurd cc
+    go (running g) q z = absurd cc
     go (waiting g) q z = rw q
-
-pub runs : (st : State) (r : ℕ) → Running ≡ status_of (record_at st r) → (g : Registers) × (record_at st r ≡ running g)
-runs st r e = go (record_at st r) refl e
-  where
-    go : (x : RecordState) → record_at st r ≡ x → Running ≡ status_of x → (g : Registers) × (record_at st r ≡ running g)
-    go free_record q z = absurd (omega (arith, ap is_free z))
-    go (running g) q z = (g, q)
-    go (waiting g) q z = absurd (omega (arith, ap is_free z))
 
 -- ---- a position
 

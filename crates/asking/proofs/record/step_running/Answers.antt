@@ -35,18 +35,11 @@ pub overflow_cast-decoded : goal.overflow_cast-decoded
 overflow_cast-decoded c =
     record { fits = next_small c.args.m.now c.requires.sound_memory.0 _ _ (good (goal.at.overflow_cast-decoded c).In-Some) }
 
-pub step_instruction-requires : goal.step_instruction-requires
-step_instruction-requires c =
-    let p = c.requires in
-    record {
-      m_len = p.m_len;
-      sound_memory = (
-        p.sound_memory.0,
-        p.sound_memory.1,
-        listed_in (view c.args.m.now).code _ c.in-Some.decoded.instruction c.in-Some.decoded.next
-            (good (goal.at.step_instruction-requires c).In-Some),
-      );
-    }
+pub step_instruction-requires-clause-sound_memory : goal.step_instruction-requires-clause-sound_memory
+step_instruction-requires-clause-sound_memory c =
+    let p = c.requires.sound_memory in
+    let there = good (goal.at.step_instruction-requires-clause-sound_memory c).In-Some in
+    (p.0, p.1, listed_in (view c.args.m.now).code _ c.in-Some.decoded.instruction c.in-Some.decoded.next there)
 
 pub returns-in_default : goal.returns-in_default
 returns-in_default c =
