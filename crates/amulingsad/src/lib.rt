@@ -11,7 +11,7 @@ ghost use Rattle.amulingsad.specs.Answers.{count_or, lowest_or, steps_or, next_o
 use rules::number_of;
 use runner::Verdict;
 
-// The number of a verdict in the header.
+// The number of a verdict in the header: the cast, with the promise that the C functions cite.
 fn number_of_verdict(verdict: Verdict) -> u8
     ensures { result ≡ verdict_number verdict }
 {

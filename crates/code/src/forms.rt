@@ -18,6 +18,7 @@ fn branch_at(code: &[u8], place: usize, k: usize) -> Branch
     }
 }
 
+// A split, a fork and a plug read three operands or more: each has a function of its own, since each builds another case of the enum.
 fn split_at(code: &[u8], place: usize) -> Instruction
     requires { place + 4 ≤ length code.now }
     ensures { instruction_of code.now place result ≡ instruction_at code.now place split_name }

@@ -6,12 +6,14 @@ ghost use Rattle.rules.specs.Numbers.{slot_number};
 
 use rules::Slot;
 
+// std's `from_be_bytes` with a promise over numbers, which the readers of operands cite.
 pub fn join16(high: u8, low: u8) -> u16
     ensures { result ≡ 256 * high + low }
 {
     u16::from_be_bytes([high, low])
 }
 
+// Two places read as one word: from places and not from bytes, as document 01's 32-bit operands are read in `rules`.
 fn join32(high: u16, low: u16) -> u32
     ensures { result ≡ 65536 * high + low }
 {

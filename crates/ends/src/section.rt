@@ -63,7 +63,7 @@ pub fn put_cell(m: &mut [u8], end: End, index: u8, cell: u64)
     put64(m, cell_at(end, index), cell);
 }
 
-// All cells of an end's queue, head first.
+// All cells of an end's queue, head first: eight with a count beside them, as the state memory has them.
 pub fn get_cells(m: &[u8], end: End) -> [u64; 8]
     requires { (length m.now ≡ state_size) × (end_number end < end_count) }
     ensures { result ≡ cells_in m.now (end_number end) }

@@ -18,6 +18,7 @@ pub enum Last {
     Wait(Record),
 }
 
+// The payload of an item as the byte that it is: who asks has tested the cell.
 fn narrow(n: u64) -> u8
     requires { n < 256 }
     ensures { result ≡ n }
