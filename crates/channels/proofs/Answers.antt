@@ -64,7 +64,8 @@ module _ {m : List ℕ} {g : Process} {c : ℕ} {y : Item} {left : List ℕ} whe
   -- the item y' stands on the queue, and record r is put anew
   pub sent : Appended m g c y (Ok tt) left → SoundMemory m → {y' : Item} → y ≡ y' → (r : ℕ) (z : RecordState) {exit : List ℕ}
       → ((st : State) → Sized st → left ≡ layout st → exit ≡ layout (set_record st r z)) → {a : Answer State}
-      → a ≡ unless_full (view m) g c (set_record (append (view m) (end_in g c) y') r z) → Promise (reply_to a) (layout_or m a) (done tt) exit
+      → a ≡ unless_full (view m) g c (set_record (append (view m) (end_in g c) y') r z)
+      → Promise (reply_to a) (layout_or m a) (done tt) exit
   sent p s {y'} same r z save q =
       let st = append (view m) (end_in g c) y' in
       let goes = room_case (queue_full (view m) c g) (append (view m) (end_in g c) y) (set_record st r z) m p.appended in

@@ -32,7 +32,8 @@ unless_full st g c y = unless ((13, queue_full st c g) ∷ []) (done y)
 
 -- 13, or the item x appended to the queue of slot c's end: the reply, and the memory left
 pub record Appended (m : List ℕ) (g : Process) (c : ℕ) (x : Item) (reply : Reply) (left : List ℕ) : Type 0 where
-  pub appended : let a = unless_full (view m) g c (append (view m) (end_in g c) x) in Promise (reply_to a) (layout_or m a) (answer_of reply) left
+  pub appended : let a = unless_full (view m) g c (append (view m) (end_in g c) x) in
+      Promise (reply_to a) (layout_or m a) (answer_of reply) left
 
 -- 13, or a wait on that queue and record r waiting at its present place
 pub record Waited (m : List ℕ) (r : ℕ) (g : Process) (c : ℕ) (reply : Reply) (left : List ℕ) : Type 0 where

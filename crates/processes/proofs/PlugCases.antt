@@ -24,7 +24,8 @@ use Rattle.processes.specs.Spare.{Spare}
 
 -- ---- answers
 
-module _ (st : State) (r next : ℕ) (g : Registers) (a m place m' place' : ℕ) (passes : own_reply g (plug a m place m' place') ≡ done tt) where
+module _ (st : State) (r next : ℕ) (g : Registers) (a m place m' place' : ℕ)
+    (passes : own_reply g (plug a m place m' place') ≡ done tt) where
   pub too_few_ends : few_free_ends 2 st ≡ true → answer_to st r next g (plug a m place m' place') ≡ refused 15
   unfolding shared_causes unless
   too_few_ends t = own_done st r next g (plug a m place m' place') passes ∙ rw t

@@ -26,7 +26,8 @@ placed c =
 -- a decoding that is good
 good : (c : In-Some) → let code = (view c.args.m.now).code in
     let place = c.place_of-place.result in
-    decode code place ≡ some (record { instruction = instruction_of code place c.in-Some.decoded.instruction; next = c.in-Some.decoded.next })
+    let decoded = c.in-Some.decoded in
+    decode code place ≡ some (record { instruction = instruction_of code place decoded.instruction; next = decoded.next })
 good c =
     decoded_good _ _ _ _ c.code.ensures c.decode.ensures c.in-Some.is
 

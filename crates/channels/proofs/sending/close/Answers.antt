@@ -28,7 +28,8 @@ pub returns-in_err-append : goal.returns-in_err-append
 unfolding shared_causes
 returns-in_err-append c g is =
     let b = passed (goal.at.returns-in_err-append c).In_ok-close in
-    full_step _ _ c.from_residual-in_err-append.ensures.1 (c.in_err-append.ensures _ g (runs_here b _ (close_named _) g is)) _ (shared_left b g is _)
+    let runs = runs_here b _ (close_named _) g is in
+    full_step _ _ c.from_residual-in_err-append.ensures.1 (c.in_err-append.ensures _ g runs) _ (shared_left b g is _)
 
 pub returns : goal.returns
 unfolding shared_causes after

@@ -23,7 +23,8 @@ passed c =
 pub returns-in_err-refusal : goal.returns-in_err-refusal
 returns-in_err-refusal c next g is =
     own_refuses _ _ c.from_residual.ensures.1
-    (record { sound = c.requires.0; load_is = c.load-held.ensures; reply_is = λ g w e. c.in_err-refusal.ensures g c.args.place w e }) next g is
+    (record { sound = c.requires.0; load_is = c.load-held.ensures; reply_is = λ g w e. c.in_err-refusal.ensures g c.args.place w e })
+    next g is
 
 pub callee-after-requires-clause-n_bound : goal.callee-after-requires-clause-n_bound
 callee-after-requires-clause-n_bound c =
