@@ -3,9 +3,8 @@
 
 #![tactic(auto)]
 
-ghost use Rattle.std.specs.Prelude.{◌≡◌, ◌≤◌, length, IfOk};
-ghost use Rattle.rules.specs.Layout.{state_size};
-ghost use Rattle.answers.specs.Sizes.{byte_size, output_size};
+ghost use Rattle.std.specs.Prelude.{◌≤◌, IfOk};
+ghost use Rattle.console.specs.declared.TheConstants.{INPUT_SIZE};
 
 use answers::OUTPUT_SIZE;
 use commands::LINE_LIMIT;
@@ -20,115 +19,94 @@ const INPUT_SIZE: usize = LINE_LIMIT + 1;
 
 const BYTE_SIZE: usize = LINE_LIMIT / 2;
 
-// What of the input buffer is read and not yet answered, whether it is the rest of a line that was too long, and whether the input is at
-// its end.
+// The console's memory: the state memory, the bytes of a hex word, and the answer to a line.
+#[derive(Drop)]
+struct Console {
+    state: [u8; STATE_SIZE],
+    bytes: [u8; BYTE_SIZE],
+    out: [u8; OUTPUT_SIZE],
+}
+
+impl Console {
+    // A line is answered, unless it is the rest of one that was.
+    fn answer<R: Print>(&mut self, rt: &R, line: &[u8], skips: bool) -> io::Result<()> {
+        if skips {
+            return Ok(());
+        }
+        let n = answers::answer(line, &mut self.state, &mut self.bytes, &mut self.out);
+        rt.write_all(&self.out[0..n])
+    }
+}
+
+// What of the input buffer is read and not yet answered, and whether it is the rest of a line that was too long: `skips` is a bool, since
+// the two places mean the same with either.
 #[derive(Clone, Copy)]
-struct Reader {
+struct Unanswered {
     from: usize,
     to: usize,
     skips: bool,
-    ends: bool,
-}
-
-// A line is answered, unless it is the rest of one that was.
-fn answer_line<R: Print>(
-    rt: &R,
-    line: &[u8],
-    skips: bool,
-    state: &mut [u8],
-    bytes: &mut [u8],
-    out: &mut [u8],
-) -> io::Result<()>
-    requires { (length state.old ≡ state_size) × (length bytes.old ≡ byte_size) × (length out.old ≡ output_size) }
-{
-    if skips {
-        return Ok(());
-    }
-    let n = answers::answer(line, state, bytes, out);
-    rt.write_all(&out[0..n])
+    ghost in_bounds: { (from ≤ to) × (to ≤ INPUT_SIZE) },
 }
 
 // One read behind the first `to` bytes: how many there are then.
-fn read_more<I: Read>(reader: &mut I, input: &mut [u8], to: usize) -> io::Result<usize>
-    requires { to ≤ length input.old }
-    ensures { IfOk result (λ n. (to ≤ n) × (n ≤ length input.new)) }
+fn read_more<I: Read>(reader: &mut I, input: &mut [u8; INPUT_SIZE], to: usize) -> io::Result<usize>
+    requires { to ≤ INPUT_SIZE }
+    ensures { IfOk result (λ n. (to ≤ n) × (n ≤ INPUT_SIZE)) }
 {
     let got = reader.read(&mut input[to..])?;
     Ok(to + got)
 }
 
 // The first `size` bytes hold no whole line: more is read. What fills the buffer is a line that is too long, and what stands in front of
-// the input's end is a line too.
+// the input's end is a line too: behind it nothing is left.
 fn fill<R: Print, I: Read>(
     rt: &R,
     reader: &mut I,
     size: usize,
     skips: bool,
-    input: &mut [u8],
-    state: &mut [u8],
-    bytes: &mut [u8],
-    out: &mut [u8],
-) -> io::Result<Reader>
-    requires state_len { (length state.old ≡ state_size) × (length bytes.old ≡ byte_size) × (length out.old ≡ output_size) }
-    requires size_in_bounds { size ≤ length input.old }
-    ensures { IfOk result (λ r. (r.from ≤ r.to) × (r.to ≤ length input.new)) }
+    input: &mut [u8; INPUT_SIZE],
+    console: &mut Console,
+) -> io::Result<Option<Unanswered>>
+    requires { size ≤ INPUT_SIZE }
 {
-    if size == input.len() {
-        answer_line(rt, input, skips, state, bytes, out)?;
-        return Ok(Reader {
+    if size == INPUT_SIZE {
+        console.answer(rt, input, skips)?;
+        return Ok(Some(Unanswered {
             from: 0,
             to: 0,
             skips: true,
-            ends: false,
-        });
+        }));
     }
     let to = read_more(reader, input, size)?;
     if size < to {
-        return Ok(Reader {
-            from: 0,
-            to,
-            skips,
-            ends: false,
-        });
+        return Ok(Some(Unanswered { from: 0, to, skips }));
     }
     if 0 < size {
-        answer_line(rt, &input[0..size], skips, state, bytes, out)?;
+        console.answer(rt, &input[0..size], skips)?;
     }
-    Ok(Reader {
-        from: 0,
-        to: 0,
-        skips,
-        ends: true,
-    })
+    Ok(None)
 }
 
-// A whole line is answered, or more is read.
+// A whole line is answered, or more is read. None: the input is at its end.
 fn turn<R: Print, I: Read>(
     rt: &R,
     reader: &mut I,
-    r: Reader,
-    input: &mut [u8],
-    state: &mut [u8],
-    bytes: &mut [u8],
-    out: &mut [u8],
-) -> io::Result<Reader>
-    requires state_len { (length state.old ≡ state_size) × (length bytes.old ≡ byte_size) × (length out.old ≡ output_size) }
-    requires from_le_to { (r.from ≤ r.to) × (r.to ≤ length input.old) }
-    ensures { IfOk result (λ after. (after.from ≤ after.to) × (after.to ≤ length input.new)) }
-{
+    r: Unanswered,
+    input: &mut [u8; INPUT_SIZE],
+    console: &mut Console,
+) -> io::Result<Option<Unanswered>> {
     let from = r.from;
     let to = r.to;
     if let Some(n) = input[from..to].iter().position(|b| *b == LINE_END) {
-        answer_line(rt, &input[from..from + n], r.skips, state, bytes, out)?;
-        return Ok(Reader {
+        console.answer(rt, &input[from..from + n], r.skips)?;
+        return Ok(Some(Unanswered {
             from: from + n + 1,
             to,
             skips: false,
-            ends: false,
-        });
+        }));
     }
     input.copy_within(from..to, 0);
-    fill(rt, reader, to - from, r.skips, input, state, bytes, out)
+    fill(rt, reader, to - from, r.skips, input, console)
 }
 
 // Turn after turn until the input ends. A proved loop has to end, and nothing says that an input does: so the turns are counted, up to a
@@ -136,41 +114,30 @@ fn turn<R: Print, I: Read>(
 fn serve<R: Print, I: Read>(
     rt: &R,
     reader: &mut I,
-    input: &mut [u8],
-    state: &mut [u8],
-    bytes: &mut [u8],
-    out: &mut [u8],
-) -> io::Result<()>
-    requires { (length state.old ≡ state_size) × (length bytes.old ≡ byte_size) × (length out.old ≡ output_size) }
-{
-    let mut r = Reader {
+    input: &mut [u8; INPUT_SIZE],
+    console: &mut Console,
+) -> io::Result<()> {
+    let mut r = Unanswered {
         from: 0,
         to: 0,
         skips: false,
-        ends: false,
     };
     for _ in 0..u64::MAX {
-        let next = turn(rt, reader, r, input, state, bytes, out)?;
-        if next.ends {
+        let Some(next) = turn(rt, reader, r, input, console)? else {
             return Ok(());
-        }
+        };
         r = next;
     }
     Ok(())
 }
 
 fn main(rt: HostRuntime) -> io::Result<()> {
-    let mut state: [u8; STATE_SIZE] = zeros();
     let mut input: [u8; INPUT_SIZE] = zeros();
-    let mut bytes: [u8; BYTE_SIZE] = zeros();
-    let mut out: [u8; OUTPUT_SIZE] = zeros();
-    memory::start(&mut state);
-    serve(
-        &rt,
-        &mut rt.stdin(),
-        &mut input,
-        &mut state,
-        &mut bytes,
-        &mut out,
-    )
+    let mut console = Console {
+        state: zeros(),
+        bytes: zeros(),
+        out: zeros(),
+    };
+    memory::start(&mut console.state);
+    serve(&rt, &mut rt.stdin(), &mut input, &mut console)
 }

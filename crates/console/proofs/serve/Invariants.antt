@@ -1,13 +1,8 @@
--- `serve` is safe. The invariant: no buffer changes its length, and what is read and not yet answered stands in the input buffer.
--- Assumes nothing.
-use Rattle.std.proofs.Common.{◌≡◌, ◌≤◌, length}
+-- `serve` is safe. The invariant: what is read and not yet answered stands in the input buffer. In the loop r is field by field: r.0 is
+-- `from`, r.1.0 is `to`. Assumes nothing.
+use Rattle.std.proofs.Common.{◌≤◌}
+use Rattle.console.specs.declared.TheConstants.{INPUT_SIZE}
 use Rattle.console.proofs.serve.Given as goal
 
 abbrev pub invariant-loop : goal.invariant-loop
-invariant-loop g l =
-    (length l.input ≡ length l.initial.input)
-    × (length l.state ≡ length l.initial.state)
-    × (length l.bytes ≡ length l.initial.bytes)
-    × (length l.out ≡ length l.initial.out)
-    × (l.r.from ≤ l.r.to)
-    × (l.r.to ≤ length l.input)
+invariant-loop g l = (l.r.0 ≤ l.r.1.0) × (l.r.1.0 ≤ INPUT_SIZE)
