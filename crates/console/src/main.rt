@@ -14,9 +14,10 @@ use std::io::{self, Read};
 
 const LINE_END: u8 = 10;
 
-// The lengths of the buffers, as specs/Sizes.antt in `answers` has them: a line and one character more, and the bytes of a line.
+// The longest line and one character more: a line that fills this is too long.
 const INPUT_SIZE: usize = LINE_LIMIT + 1;
 
+// As many bytes as a line's digits can spell, `byte_size` of specs/Sizes.antt in `answers`.
 const BYTE_SIZE: usize = LINE_LIMIT / 2;
 
 // The console's memory: the state memory, the bytes of a hex word, and the answer to a line.
