@@ -1,24 +1,20 @@
 -- Laws of hex: the length of a text, and what a hex word says of its digits. Assumes nothing.
 use mathlib.Core.Path.{◌≡◌, refl, sym, ◌∙◌}
-use mathlib.Core.List.{List, [], ◌∷◌, ◌++◌, append-nil}
+use mathlib.Core.List.{List, [], ◌∷◌}
 use mathlib.Core.Bool.{Bool, true, false}
 use Prim.Native.Nat.{ℕ, zero, suc, ◌+◌, ◌*◌, ◌/◌, ◌%◌, ◌≤◌, ◌<◌}
 use native.Mathlib.Nat.{le_of_suc-le-suc}
-use native.Mathlib.Numerals.{add-one}
 use native.Mathlib.Omega.{arith}
 use borrow.Author.Tests.{ltb-true, lt-ltb, le-ltb, eq-eqb, ne_eqb}
-use lib.ListN.{length, get_or, set, take, drop}
-use lib.Seq.{take_all, take-suc}
+use lib.ListN.{length, get_or, set, take}
+use lib.Seq.{take_all}
 use lib.Dec.{ltb, eqb}
 use Rattle.words.proofs.Parts.{put_next}
-use Rattle.words.proofs.Pieces.{flat_append, flat_split, length_flat}
+use Rattle.words.proofs.Pieces.{length_flat, put_more}
 use Rattle.rules.specs.Bytes.{flat}
 use Rattle.words.specs.Parts.{put_at}
 use Rattle.text.specs.Written.{Written, hex_byte, hex_text}
-use Rattle.text.specs.declared.printing.Page.{Page}
-use Rattle.text.specs.Page.{Room, Puts}
 use Rattle.text.specs.Digits.{digit_value, both, all_digits, is_hex, hex_bytes}
-use Rattle.text.proofs.Texts.{room_as, room_first, room_rest}
 
 -- ---- printing
 
@@ -30,19 +26,19 @@ pub length_text : (bytes : List ℕ) → length (hex_text bytes) ≡ 2 * length 
 unfolding hex_text
 length_text bytes = length_flat hex_byte 2 length_byte bytes
 
--- a turn of the loop that prints: room for the byte that comes, and the bytes with it
-pub hex_room : {p q : Page} (bytes : List ℕ) (i : ℕ) → i < length bytes → Puts p (hex_text (take i bytes)) q → Room p (hex_text bytes)
-    → Room q (hex_byte (get_or bytes i 0))
-unfolding hex_text
-hex_room {p} {q} bytes i h w room =
-    let behind = flat hex_byte (drop (suc i) bytes) in
-    room_first q (hex_byte (get_or bytes i 0)) behind
-    (room_rest (hex_byte (get_or bytes i 0) ++ behind) (room_as p (sym (flat_split hex_byte bytes i 0 h)) room) w)
+-- a turn of the loop that prints, and its end
+pub hex_more : (m : List ℕ) (at : ℕ) (bytes : List ℕ) (i : ℕ) {m₁ m₂ : List ℕ} → i < length bytes
+    → m₁ ≡ put_at m at (flat hex_byte (take i bytes)) → m₂ ≡ put_at m₁ (at + 2 * i) (hex_byte (get_or bytes i 0))
+    → m₂ ≡ put_at m at (flat hex_byte (take (i + 1) bytes))
+hex_more m at bytes i h p e = e ∙ rw p (put_more hex_byte 2 length_byte m at bytes i 0 h)
 
-pub hex_more : (bytes : List ℕ) (i : ℕ) → i < length bytes
-    → hex_text (take i bytes) ++ hex_byte (get_or bytes i 0) ≡ hex_text (take (i + 1) bytes)
-unfolding hex_text flat
-hex_more bytes i h = rw (add-one, take-suc bytes i 0 h, flat_append hex_byte, append-nil)
+pub hex_written : {m m' : List ℕ} (at : ℕ) (bytes : List ℕ) (i : ℕ) → length bytes ≤ i
+    → m' ≡ put_at m at (flat hex_byte (take i bytes)) → Written m at (hex_text bytes) m' (at + 2 * length bytes)
+unfolding hex_text
+hex_written {m} {m'} at bytes i h e = record {
+  memory = e ∙ rw (take_all i bytes h);
+  place = let s = length_flat hex_byte 2 length_byte bytes in omega arith;
+}
 
 -- ---- reading
 

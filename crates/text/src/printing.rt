@@ -1,8 +1,9 @@
 // Printing into a lent buffer: a page is the buffer and the place from which on the next text goes. Each method leaves the page behind what
 // it printed, and all else in the buffer as it was.
-ghost use Rattle.std.specs.Prelude.{◌≡◌, [], ◌∷◌, ◌+◌, ◌%◌, ◌≤◌, ◌<◌, length, drop};
+ghost use Rattle.std.specs.Prelude.{◌≡◌, [], ◌∷◌, ◌+◌, ◌*◌, ◌%◌, ◌≤◌, ◌<◌, length, drop};
 ghost use Rattle.rules.specs.Text.{decimal, signed_decimal};
-ghost use Rattle.text.specs.Written.{hex_digit, hex_byte, hex_text};
+ghost use Rattle.words.specs.Parts.{put_at};
+ghost use Rattle.text.specs.Written.{Written, hex_digit, hex_byte, hex_text};
 ghost use Rattle.text.specs.Page.{Room, Puts};
 
 // Digits of the greatest u64.
@@ -42,6 +43,27 @@ fn hex_digit(d: u8) -> u8
         return 48 + d;
     }
     87 + d
+}
+
+// A byte in two hex digits.
+fn put_byte(out: &mut [u8], at: usize, b: u8)
+    requires { at + 2 ≤ length out.old }
+    ensures { out.new ≡ put_at out.old at (hex_byte b) }
+{
+    out[at] = hex_digit(b / 16);
+    out[at + 1] = hex_digit(b % 16);
+}
+
+// Bytes in hex go into a buffer from a place on: the place behind them. It takes no page, whose place would be read and set for each byte:
+// the text of a dump took three times the instructions.
+fn hex_into(out: &mut [u8], at: usize, bytes: &[u8]) -> usize
+    requires { at + 2 * length bytes.now ≤ length out.old }
+    ensures { Written out.old at (hex_text bytes.now) out.new result }
+{
+    for (i, b) in bytes.iter().enumerate() {
+        put_byte(out, at + 2 * i, *b);
+    }
+    at + 2 * bytes.len()
 }
 
 // A lent buffer, and the place in it from which on the next text goes.
@@ -110,22 +132,11 @@ impl<'a> Page<'a> {
         self.put_decimal(magnitude);
     }
 
-    // A byte in two hex digits.
-    fn put_byte(&mut self, b: u8)
-        requires { Room self.old (hex_byte b) }
-        ensures { Puts self.old (hex_byte b) self.new }
-    {
-        self.put_letter(hex_digit(b / 16));
-        self.put_letter(hex_digit(b % 16));
-    }
-
     // Bytes in hex, in lower case.
     pub fn put_hex(&mut self, bytes: &[u8])
         requires { Room self.old (hex_text bytes.now) }
         ensures { Puts self.old (hex_text bytes.now) self.new }
     {
-        for b in bytes {
-            self.put_byte(*b);
-        }
+        self.at = hex_into(self.out, self.at, bytes);
     }
 }
