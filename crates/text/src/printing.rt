@@ -55,7 +55,7 @@ fn put_byte(out: &mut [u8], at: usize, b: u8)
 }
 
 // Bytes in hex go into a buffer from a place on: the place behind them. It takes no page, whose place would be read and set for each byte:
-// the text of a dump took three times the instructions.
+// the text of a dump took more than three times the instructions.
 fn hex_into(out: &mut [u8], at: usize, bytes: &[u8]) -> usize
     requires { at + 2 * length bytes.now ≤ length out.old }
     ensures { Written out.old at (hex_text bytes.now) out.new result }
