@@ -10,7 +10,8 @@ ghost use Rattle.asking.specs.Stepped.{ListedIn};
 use code::Instruction;
 use rules::{Record, Refusal};
 
-// Instruction i, decoded at a place of the code, is asked of record r; `next` is the place after it.
+// Instruction i, decoded at a place of the code, is asked of record r; `next` is the place after it. A case for
+// each row of document 01's table: the proofs go by the case, which no table of functions would tell them.
 pub fn step_instruction(
     m: &mut [u8],
     r: Record,

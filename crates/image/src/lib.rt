@@ -64,7 +64,7 @@ pub fn read(image: &[u8]) -> Result<usize, Refusal>
 }
 
 // The code of an image that reads goes into `out` from `at` on. It stands in runs, one for each block: data byte p of block i stands at
-// p + 2 i, behind the checks of the blocks before.
+// p + 2 i, behind the checks of the blocks before. No page is written on: nothing is printed behind the code.
 pub fn copy_code(image: &[u8], out: &mut [u8], at: usize)
     requires image_reads { read_image image.now ≡ done (code_in image.now) }
     requires room { at + code_length image.now ≤ length out.old }

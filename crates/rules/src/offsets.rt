@@ -39,7 +39,6 @@ pub const CELL_SIZE: usize = 8;
 
 pub const QUEUE_SIZE: usize = CELL_SIZE * QUEUE_DEPTH;
 
-// All of it. Each function that is lent a state memory asks for this length by a clause, or for a sound memory. No type can say it instead:
-// std promises of the array that TryFrom makes of a lent slice nothing about what is left in the slice, and with a struct around the slice
-// each function would have to promise that it still holds the same one.
+// All of it. Each function that is lent a state memory asks for this length by a clause, or for a sound memory. An array can't
+// say it instead: std promises of the one that TryFrom makes of a lent slice nothing about what is left in the slice.
 pub const STATE_SIZE: usize = QUEUES_AT + QUEUE_SIZE * END_COUNT;

@@ -90,7 +90,7 @@ fn join_digits(high: u8, low: u8) -> u8
     16 * digit_value(high) + digit_value(low)
 }
 
-// The bytes that a hex word means go into a buffer at a place: the place behind them.
+// The bytes that a hex word means go into a buffer at a place: the place behind them. It reads and doesn't print, so it takes no page.
 pub fn read_hex(out: &mut [u8], at: usize, word: &[u8]) -> usize
     requires hex { is_hex word.now ≡ true }
     requires room { at + length word.now / 2 ≤ length out.old }
