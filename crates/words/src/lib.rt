@@ -104,10 +104,13 @@ pub fn put_signed(m: &mut [u8], at: usize, n: i32)
     put32(m, at, n.cast_unsigned());
 }
 
-// All of `bytes` goes into m from `at` on.
+// All of `bytes` goes into m from `at` on, one after the other: std's copy of a length that shows only as it runs calls memmove, which the
+// archive for C would then want of its host beside memcpy and memset.
 pub fn copy(bytes: &[u8], m: &mut [u8], at: usize)
     requires { at + length bytes.now ≤ length m.old }
     ensures { m.new ≡ put_at m.old at bytes.now }
 {
-    m[at..at + bytes.len()].copy_from_slice(bytes);
+    for (i, byte) in bytes.iter().enumerate() {
+        m[at + i] = *byte;
+    }
 }
