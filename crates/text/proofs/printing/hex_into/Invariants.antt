@@ -7,4 +7,4 @@ use Rattle.text.proofs.printing.hex_into.Given as goal
 
 abbrev pub invariant-loop-i : goal.invariant-loop-i
 invariant-loop-i l = (length l.out ≡ length l.initial.out)
-    × (l.out ≡ put_at l.initial.out l.at (flat hex_byte (take l.i l.bytes)))
+    × (l.out ≡ put_at l.initial.out 0 (flat hex_byte (take l.i l.bytes)))
