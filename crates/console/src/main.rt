@@ -3,7 +3,8 @@
 
 #![tactic(auto)]
 
-ghost use Rattle.std.specs.Prelude.{◌≤◌, IfOk};
+ghost use Rattle.std.specs.Prelude.{◌≡◌, ◌≤◌, length, IfOk};
+ghost use Rattle.console.specs.Sizes.{input_size};
 ghost use Rattle.console.specs.declared.TheConstants.{INPUT_SIZE};
 
 use answers::OUTPUT_SIZE;
@@ -14,7 +15,7 @@ use std::io::{self, Read};
 
 const LINE_END: u8 = 10;
 
-// The longest line and one character more: a line that fills this is too long.
+// The longest line and one character more, `input_size` of specs/Sizes.antt: a line that fills this is too long.
 const INPUT_SIZE: usize = LINE_LIMIT + 1;
 
 // As many bytes as a line's digits can spell, `byte_size` of specs/Sizes.antt in `answers`.
@@ -106,7 +107,9 @@ fn turn<R: Print, I: Read>(
             skips: false,
         }));
     }
-    input.copy_within(from..to, 0);
+    if 0 < from {
+        input.copy_within(from..to, 0); // a line longer than one read stands in front already
+    }
     fill(rt, reader, to - from, r.skips, input, console)
 }
 
@@ -132,8 +135,16 @@ fn serve<R: Print, I: Read>(
     Ok(())
 }
 
+// The input buffer: a function of its own, since its promise ties INPUT_SIZE to the grammar's longest line. The lengths of the other
+// buffers are tied to the definitions by what `answers::answer` asks.
+fn input_buffer() -> [u8; INPUT_SIZE]
+    ensures { input_size ≡ length result }
+{
+    zeros()
+}
+
 fn main(rt: HostRuntime) -> io::Result<()> {
-    let mut input: [u8; INPUT_SIZE] = zeros();
+    let mut input = input_buffer();
     let mut console = Console {
         state: zeros(),
         bytes: zeros(),
