@@ -1,8 +1,8 @@
 -- The reply's number, and the memory that `machine` leaves. Assumes nothing.
-use Rattle.std.proofs.Common.{◌≡◌, ap, ◌∙◌, ℕ, arith, length}
+use Rattle.std.proofs.Common.{◌≡◌, ap, ℕ, arith, length}
 use Rattle.rules.specs.Calls.{load, load_answer}
 use Rattle.rules.specs.Text.{text}
-use Rattle.rules.proofs.Promises.{number_returned, reply_number_lem}
+use Rattle.rules.proofs.Promises.{number_said}
 use Rattle.text.proofs.Texts.{written_as}
 use Rattle.answers.specs.Answers.{number_line, load_answered}
 use Rattle.answers.proofs.requests.load.Goals as goal
@@ -16,8 +16,7 @@ unfolding load
 number c =
     let a = c.args in
     let reply = c.load-reply.ensures.answer_is in
-    number_returned c.load-reply.result c.number_of.ensures
-    ∙ reply_number_lem c.load-reply.result (load_answer a.state.now a.image.now) reply
+    number_said c.load-reply.result (load_answer a.state.now a.image.now) c.number_of.ensures reply
 
 pub put_number_line-requires : goal.put_number_line-requires
 unfolding load_answered text
