@@ -26,20 +26,31 @@ pub length_text : (bytes : List ℕ) → length (hex_text bytes) ≡ 2 * length 
 unfolding hex_text
 length_text bytes = length_flat hex_byte 2 length_byte bytes
 
--- a turn of the loop that prints from the front on, and its end
-pub hex_more : (m : List ℕ) (bytes : List ℕ) (i : ℕ) {m₁ m₂ : List ℕ} → i < length bytes
+-- a turn of the loop that prints from a place on, and its end
+pub hex_more : (m : List ℕ) (at : ℕ) (bytes : List ℕ) (i : ℕ) {m₁ m₂ : List ℕ} → i < length bytes
+    → m₁ ≡ put_at m at (flat hex_byte (take i bytes)) → m₂ ≡ put_at m₁ (at + 2 * i) (hex_byte (get_or bytes i 0))
+    → m₂ ≡ put_at m at (flat hex_byte (take (i + 1) bytes))
+hex_more m at bytes i h p e = e ∙ rw p (put_more hex_byte 2 length_byte m at bytes i 0 h)
+
+pub hex_written : {m m' : List ℕ} (at : ℕ) (bytes : List ℕ) (i : ℕ) → length bytes ≤ i
+    → m' ≡ put_at m at (flat hex_byte (take i bytes)) → Written m at (hex_text bytes) m' (at + 2 * length bytes)
+unfolding hex_text
+hex_written {m} {m'} at bytes i h e = record {
+  memory = e ∙ rw (take_all i bytes h);
+  place = let s = length_flat hex_byte 2 length_byte bytes in omega arith;
+}
+
+-- the same from the front on, and its end where the text fills the slice
+pub hex_filling : (m : List ℕ) (bytes : List ℕ) (i : ℕ) {m₁ m₂ : List ℕ} → i < length bytes
     → m₁ ≡ put_at m 0 (flat hex_byte (take i bytes)) → m₂ ≡ put_at m₁ (2 * i) (hex_byte (get_or bytes i 0))
     → m₂ ≡ put_at m 0 (flat hex_byte (take (i + 1) bytes))
-hex_more m bytes i h p e =
-    let z : 2 * i ≡ 0 + 2 * i = omega arith in
-    e ∙ rw (p, z) (put_more hex_byte 2 length_byte m 0 bytes i 0 h)
+hex_filling m bytes i h p e =
+    let z : 0 + 2 * i ≡ 2 * i = omega arith in
+    hex_more m 0 bytes i h p (rw z e)
 
 pub hex_filled : (m : List ℕ) (bytes : List ℕ) (i : ℕ) {m' : List ℕ} → length m ≡ 2 * length bytes → length bytes ≤ i
     → m' ≡ put_at m 0 (flat hex_byte (take i bytes)) → m' ≡ hex_text bytes
-unfolding hex_text
-hex_filled m bytes i l h e =
-    let whole = length_flat hex_byte 2 length_byte bytes ∙ sym l in
-    e ∙ rw (take_all i bytes h) (put_all m (flat hex_byte bytes) whole)
+hex_filled m bytes i l h e = (hex_written 0 bytes i h e).memory ∙ put_all m (hex_text bytes) (length_text bytes ∙ sym l)
 
 -- ---- reading
 

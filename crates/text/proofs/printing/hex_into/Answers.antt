@@ -1,6 +1,6 @@
 -- `hex_into` puts one byte after the other. The invariant: the first i are put. Assumes nothing.
 use Rattle.std.proofs.Common.{refl, arith}
-use Rattle.text.proofs.Hex.{hex_more, hex_filled}
+use Rattle.text.proofs.Hex.{hex_filling, hex_filled}
 use Rattle.rules.specs.Bytes.{flat}
 use Rattle.text.proofs.printing.hex_into.Goals as goal
 
@@ -13,7 +13,7 @@ loop-i-preserved c =
     let a = c.args in
     let l = c.loop-i in (
       omega arith,
-      hex_more a.out.now a.bytes.now l.i (omega arith) l.invariant.1 c.put_byte.ensures,
+      hex_filling a.out.now a.bytes.now l.i (omega arith) l.invariant.1 c.put_byte.ensures,
     )
 
 pub returns : goal.returns
